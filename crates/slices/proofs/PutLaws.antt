@@ -1,0 +1,54 @@
+-- The laws of `putAt` that callers cite: a refusal keeps the buffer, what stands before and beyond stays, the first bytes are
+-- those that were put. Each goes through the stores one by one.
+use mathlib.Core.Path.{_≡_, refl, sym, ap, _∙_}
+use mathlib.Core.List.{List, [], _∷_, _++_, append-nil}
+use Prim.Native.Nat.{ℕ, suc, _+_, _≤_}
+use native.Mathlib.Omega.{arith}
+use lib.ListN.{length, take, drop, set, length-set}
+use lib.Seq.{sets, length-sets, sets-eq, set-out, take-set-le, drop-set-lt, take-at}
+use Rattle.slices.specs.Put.{putAt}
+
+-- no bytes put, as at a refusal: the buffer is as it was
+pub put-none : (d : List ℕ) (at : ℕ) → putAt d at [] ≡ d
+put-none d at = refl
+
+-- the buffer keeps its length
+pub length-put : (d : List ℕ) (at : ℕ) (xs : List ℕ) → length (putAt d at xs) ≡ length d
+length-put d at xs = length-sets d at xs
+
+-- from the end of the buffer on nothing is put
+pub put-out : (d : List ℕ) (at : ℕ) (xs : List ℕ) → length d ≤ at → putAt d at xs ≡ d
+put-out d at [] h = refl
+put-out d at (x ∷ xs) h =
+    let out : set d at x ≡ d = set-out d at x h in
+    let past : length (set d at x) ≤ suc at = rw out (omega arith) in
+    put-out (set d at x) (suc at) xs past ∙ out
+
+-- one string put behind another is the two joined
+pub put-append : (d : List ℕ) (at : ℕ) (xs ys : List ℕ) → putAt (putAt d at xs) (at + length xs) ys ≡ putAt d at (xs ++ ys)
+put-append d at [] ys = let e : at + 0 ≡ at = omega arith in rw e
+put-append d at (x ∷ xs) ys =
+    let e : at + suc (length xs) ≡ suc at + length xs = omega arith in
+    rw e (put-append (set d at x) (suc at) xs ys)
+
+-- what stands before the place stays
+pub put-before : (d : List ℕ) (at : ℕ) (xs : List ℕ) (n : ℕ) → n ≤ at → take n (putAt d at xs) ≡ take n d
+put-before d at [] n h = refl
+put-before d at (x ∷ xs) n h = put-before (set d at x) (suc at) xs n (omega arith) ∙ take-set-le n d at x h
+
+-- what stands beyond the bytes put stays
+pub put-beyond : (d : List ℕ) (at : ℕ) (xs : List ℕ) (n : ℕ) → at + length xs ≤ n → drop n (putAt d at xs) ≡ drop n d
+put-beyond d at [] n h = refl
+put-beyond d at (x ∷ xs) n h =
+    put-beyond (set d at x) (suc at) xs n (omega arith) ∙ drop-set-lt n d at x (omega arith)
+
+-- at the start of a buffer with room: the bytes put, then the rest of the buffer
+pub put-start : (d xs : List ℕ) → length xs ≤ length d → putAt d 0 xs ≡ xs ++ drop (length xs) d
+put-start d xs h =
+    let e : 0 + length xs ≡ length xs = omega arith in
+    let fits : 0 + length xs ≤ length d = omega arith in
+    sets-eq xs d 0 fits ∙ rw e
+
+-- the first bytes are those that were put
+pub put-first : (d xs : List ℕ) → length xs ≤ length d → take (length xs) (putAt d 0 xs) ≡ xs
+put-first d xs h = rw (put-start d xs h) (take-at xs (drop (length xs) d) (length xs) refl)

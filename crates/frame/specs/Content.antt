@@ -1,0 +1,32 @@
+-- 01, Frames: content is type, sequence, payload (0 to 383 bytes) and check (two bytes, high byte first).
+use Prim.Native.Nat.{ℕ, _-_}
+use mathlib.Core.Bool.{cond}
+use mathlib.Core.List.{List, [], _∷_, _++_}
+use lib.Dec.{eqb, ltb}
+use lib.ListN.{length, take, drop, getD}
+use Rattle.refusals.specs.Numbers.{shortContent, badCheck}
+use Rattle.crc.specs.Crc.{linkStart, crcOf, checkBytes}
+
+abbrev pub payloadMax : ℕ
+payloadMax = 383
+
+-- the check covers type, sequence and payload, and stands behind them
+unfoldable pub contentOf : ℕ → ℕ → List ℕ → List ℕ
+contentOf kind sequence payload =
+    let body = kind ∷ sequence ∷ payload in
+    body ++ checkBytes (crcOf linkStart body)
+
+-- what content turns out to be: a frame's type, sequence and payload, or a refusal
+pub data Read : Type 0 where
+  frame : ℕ → ℕ → List ℕ → Read
+  refused : ℕ → Read
+
+-- what stands between type and sequence and the two bytes of check
+abbrev pub payloadOf : List ℕ → List ℕ
+payloadOf c = take (length c - 4) (drop 2 c)
+
+-- 01, Refusal numbers: under 4 bytes is refusal 3, a check over the whole content other than 0 is refusal 4
+unfoldable pub judged : List ℕ → Read
+judged c =
+    cond (ltb (length c) 4) (refused shortContent)
+    (cond (eqb (crcOf linkStart c) 0) (frame (getD c 0 0) (getD c 1 0) (payloadOf c)) (refused badCheck))

@@ -1,0 +1,5 @@
+pub mod Stuffing
+pub mod Content
+pub mod Writing
+pub mod Reading
+pub mod Answers

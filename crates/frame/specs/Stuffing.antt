@@ -1,0 +1,73 @@
+-- 01, Frames: the bytes of a frame on the line. Each 7e becomes 7d 5e, each 7d becomes 7d 5d, no other byte is escaped.
+use Prim.Native.Nat.{ℕ, zero, suc, _+_}
+use mathlib.Core.Bool.{Bool, false, cond}
+use mathlib.Core.List.{List, [], _∷_, _++_}
+use lib.Dec.{eqb, ltb}
+use lib.ListN.{length}
+use Rattle.refusals.specs.Numbers.{badFraming, longContent}
+
+abbrev pub flagByte : ℕ
+flagByte = 0x7e
+
+abbrev pub escapeByte : ℕ
+escapeByte = 0x7d
+
+-- unstuffed content has at most this many bytes: type, sequence, 383 bytes of payload, two of check
+abbrev pub contentMax : ℕ
+contentMax = 387
+
+abbrev pub stuffByte : ℕ → List ℕ
+stuffByte b = cond (eqb b 0x7e) (0x7d ∷ 0x5e ∷ []) (cond (eqb b 0x7d) (0x7d ∷ 0x5d ∷ []) (b ∷ []))
+
+unfoldable pub stuff : List ℕ → List ℕ
+stuff [] = []
+stuff (b ∷ bs) = stuffByte b ++ stuff bs
+
+-- how many bytes of a string are escaped
+unfoldable pub escapes : List ℕ → ℕ
+escapes [] = 0
+escapes (b ∷ bs) = cond (eqb b 0x7e) 1 (cond (eqb b 0x7d) 1 0) + escapes bs
+
+-- 01, Frames: after an escape byte a reader is in the escaped state for exactly one byte, then plain again
+pub data State : Type 0 where
+  plain : State
+  escaped : State
+
+-- what one sent byte means in a state: the next is escaped, a byte of content, or a fault
+pub data Meaning : Type 0 where
+  escapes-next : Meaning
+  stands-for : ℕ → Meaning
+  faulty : Meaning
+
+abbrev pub meaning : State → ℕ → Meaning
+meaning plain b = cond (eqb b 0x7d) escapes-next (stands-for b)
+meaning escaped b = cond (eqb b 0x5e) (stands-for 0x7e) (cond (eqb b 0x5d) (stands-for 0x7d) faulty)
+
+-- unstuffing gives the content, or refusal 1 or 2
+pub data Unstuffed : Type 0 where
+  content : List ℕ → Unstuffed
+  refused : ℕ → Unstuffed
+
+-- b in front of what the rest gives
+abbrev pub joined : ℕ → Unstuffed → Unstuffed
+joined b (content c) = content (b ∷ c)
+joined b (refused n) = refused n
+
+-- 01, refusal numbers: one byte more with `held` bytes of content before it; the 388th is refusal 2
+abbrev pub taken : Meaning → ℕ → (State → ℕ → Unstuffed) → Unstuffed
+taken escapes-next held rest = rest escaped held
+taken (stands-for b) held rest = cond (ltb held contentMax) (joined b (rest plain (suc held))) (refused longContent)
+taken faulty held rest = refused badFraming
+
+-- at the closing flag: an escape byte right before it is refusal 1
+abbrev pub closed : State → Unstuffed
+closed plain = content []
+closed escaped = refused badFraming
+
+-- the sent bytes of a frame, without its flags, from the left: 1 and 2 by whichever is met first
+unfoldable pub unstuffFrom : State → ℕ → List ℕ → Unstuffed
+unstuffFrom s held [] = closed s
+unstuffFrom s held (b ∷ bs) = taken (meaning s b) held (λ s₁ held₁. unstuffFrom s₁ held₁ bs)
+
+unfoldable pub unstuff : List ℕ → Unstuffed
+unstuff bs = unstuffFrom plain 0 bs

@@ -1,0 +1,20 @@
+// Frames of the module's UART link (document 01, Frames; source document 000, UART Protocol): the
+// frame writer, the reader of one whole frame, and the judge of unstuffed content.
+pub mod content;
+pub mod reader;
+pub mod writer;
+
+// Opens and closes each frame.
+pub const FLAG: u8 = 0x7e;
+// Stands before a byte that was escaped.
+pub const ESCAPE: u8 = 0x7d;
+// What a flag and an escape byte become behind an escape byte.
+pub const ESCAPED_FLAG: u8 = 0x5e;
+
+pub const ESCAPED_ESCAPE: u8 = 0x5d;
+
+pub const PAYLOAD_MAX: usize = 383;
+// Type, sequence, payload and two bytes of check.
+pub const CONTENT_MAX: usize = 387;
+// The start value of this link's check.
+pub const CHECK_START: u16 = 0xffff;

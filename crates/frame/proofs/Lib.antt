@@ -4,3 +4,6 @@ pub mod BoundLaws
 pub mod ContentLaws
 pub mod ReadLaws
 pub mod WriteLaws
+pub mod StuffTheorems
+pub mod FrameTheorems
+pub mod FlagLaws

@@ -1,0 +1,32 @@
+-- 01, Program and C host: what the C firmware is told. A report is one number, so that a refusal can't be mistaken for a length.
+use mathlib.Core.Path.{_≡_}
+use mathlib.Core.List.{List}
+use Prim.Native.Nat.{ℕ, _+_, _*_}
+use lib.ListN.{length}
+use Rattle.slices.specs.Put.{putAt}
+use Rattle.frame.specs.Content as content
+use Rattle.frame.specs.Writing as writing
+use Rattle.frame.specs.Answers.{readPayload, writtenBytes}
+
+-- the refusal's number in bits 0 to 7 (0: none), type in 8 to 15, sequence in 16 to 23, length in 24 to 39; the bits above, kept
+-- for a place, are 0
+abbrev pub reportOf : ℕ → ℕ → ℕ → ℕ → ℕ
+reportOf number kind sequence size = number + kind * 0x100 + sequence * 0x10000 + size * 0x1000000
+
+-- the frame check: type, sequence and the payload's length, or the refusal alone
+abbrev pub readReport : content.Read → ℕ
+readReport (content.frame kind sequence payload) = reportOf 0 kind sequence (length payload)
+readReport (content.refused n) = reportOf n 0 0 0
+
+-- the frame writer: the frame's length, or the refusal alone
+abbrev pub writtenReport : writing.Written → ℕ
+writtenReport (writing.written sent) = reportOf 0 0 0 (length sent)
+writtenReport (writing.refused n) = reportOf n 0 0 0
+
+pub record ReportsRead (found : content.Read) (output : List ℕ) (report : ℕ) (exit : List ℕ) : Type 0 where
+  pub reports : report ≡ readReport found
+  pub payload : exit ≡ putAt output 0 (readPayload found)
+
+pub record ReportsWritten (result : writing.Written) (output : List ℕ) (report : ℕ) (exit : List ℕ) : Type 0 where
+  pub reports : report ≡ writtenReport result
+  pub frame : exit ≡ putAt output 0 (writtenBytes result)

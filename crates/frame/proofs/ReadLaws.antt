@@ -11,12 +11,11 @@ use lib.Seq.{drop-cons}
 use borrow.Author.Tests.{eq-eqb, ne-eqb, lt-ltb, le-ltb, ltb-true, ltb-false}
 use Rattle.refusals.specs.Numbers.{badFraming, shortOutput}
 use Rattle.frame.specs.Stuffing as stuffing
-use Rattle.frame.specs.Stuffing.{flagByte, plain, unstuffFrom, unstuff}
+use Rattle.frame.specs.Stuffing.{flagByte, unstuff}
 use Rattle.frame.specs.Content.{payloadMax, Read, refused, judged}
 use Rattle.frame.specs.Reading.{readRun, firstFlag, flaggedBytes, between, readFrame}
-use Rattle.frame.specs.Answers.{ReadsAs, unstuffAnswer}
+use Rattle.frame.specs.Answers.{ReadsAs}
 use Rattle.frame.specs.declared.content.FrameRead.the-variants as answer
-use Rattle.frame.specs.declared.reader.Unstuffed.the-variants as unstuffed
 
 module _ (bytes : List ℕ) (i : ℕ) where
   pub first-flag-here : i < length bytes → getD bytes i 0 ≡ flagByte → firstFlag (drop i bytes) ≡ 0
@@ -89,14 +88,6 @@ run-refused run n e = rw e
 pub run-content : (run c : List ℕ) → unstuff run ≡ stuffing.content c → readRun run ≡ judged c
 unfolding readRun
 run-content run c e = rw e
-
-pub answer-stopped : (run : List ℕ) (n : ℕ) → unstuffed.Refused n ≡ unstuffAnswer 0 (unstuffFrom plain 0 run) → unstuff run ≡ stuffing.refused n
-unfolding unstuff
-answer-stopped run n e = cases (unstuffFrom plain 0 run) e
-  where
-    cases : (found : stuffing.Unstuffed) → unstuffed.Refused n ≡ unstuffAnswer 0 found → found ≡ stuffing.refused n
-    cases (stuffing.content c) e = let z : _≡_ {A = ℕ} 0 1 = cc in absurd (omega arith)
-    cases (stuffing.refused m) e = let same : m ≡ n = cc in ap stuffing.refused same
 
 -- the bytes between the flags as a part of the slice
 pub between-part : (bytes : List ℕ) → take (length bytes - 1 - 1) (drop 1 bytes) ≡ between bytes

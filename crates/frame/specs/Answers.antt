@@ -5,11 +5,11 @@ use mathlib.Core.List.{List, []}
 use lib.ListN.{length}
 use Rattle.slices.specs.Put.{putAt}
 use Rattle.frame.specs.Stuffing as stuffing
+use Rattle.frame.specs.Stuffing.{contentMax}
 use Rattle.frame.specs.Content as content
 use Rattle.frame.specs.Writing as writing
 use Rattle.frame.specs.declared.content.FrameRead as read
 use Rattle.frame.specs.declared.writer.Written as written
-use Rattle.frame.specs.declared.reader.Unstuffed as unstuffed
 
 -- the reader's answer: type, sequence and the payload's length, or the refusal's number
 abbrev pub readAnswer : content.Read → read.FrameRead
@@ -40,13 +40,13 @@ pub record WritesAs (result : writing.Written) (out : List ℕ) (answer : writte
   pub answers : answer ≡ writeAnswer result
   pub output : exit ≡ putAt out 0 (writtenBytes result)
 
--- how much content there is, behind the bytes held before
-abbrev pub unstuffAnswer : ℕ → stuffing.Unstuffed → unstuffed.Unstuffed
-unstuffAnswer held (stuffing.content c) = unstuffed.the-variants.Content (held + length c)
-unstuffAnswer held (stuffing.refused n) = unstuffed.the-variants.Refused n
+-- how much content there is with the bytes held before, or a refusal, as a number above any length of content
+abbrev pub unstuffAnswer : ℕ → stuffing.Unstuffed → ℕ
+unstuffAnswer held (stuffing.content c) = held + length c
+unstuffAnswer held (stuffing.refused n) = contentMax + n
 
 -- What was unstuffed behind `held` bytes of content is answered, and stands in the array where it is no refusal. What a refused
 -- frame leaves in that array of the reader's own is open.
-pub record UnstuffsAs (found : stuffing.Unstuffed) (held : ℕ) (array : List ℕ) (answer : unstuffed.Unstuffed) (exit : List ℕ) : Type 0 where
+pub record UnstuffsAs (found : stuffing.Unstuffed) (held : ℕ) (array : List ℕ) (answer : ℕ) (exit : List ℕ) : Type 0 where
   pub answers : answer ≡ unstuffAnswer held found
   pub array-filled : (c : List ℕ) → found ≡ stuffing.content c → exit ≡ putAt array held c

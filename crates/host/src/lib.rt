@@ -5,6 +5,7 @@ use frame::reader::read_frame;
 use frame::writer::Written;
 use frame::writer::write_frame;
 ghost use mathlib.Core.Path.{_≡_};
+ghost use Prim.Native.Nat.{_<_};
 ghost use lib.ListN.{length};
 ghost use Rattle.crc.specs.Crc.{crcOf};
 ghost use Rattle.frame.specs.Reading.{readFrame};

@@ -2,7 +2,8 @@
 -- those that were put. Each goes through the stores one by one.
 use mathlib.Core.Path.{_≡_, refl, sym, ap, _∙_}
 use mathlib.Core.List.{List, [], _∷_, _++_, append-nil}
-use Prim.Native.Nat.{ℕ, suc, _+_, _≤_}
+use Prim.Native.Nat.{ℕ, suc, _+_, _≤_, min}
+use native.Mathlib.Nat.{zero-min, min-zero, suc-min-suc}
 use native.Mathlib.Omega.{arith}
 use lib.ListN.{length, take, drop, set, length-set}
 use lib.Seq.{sets, length-sets, sets-eq, set-out, take-set-le, drop-set-lt, take-at}
@@ -52,3 +53,15 @@ put-start d xs h =
 -- the first bytes are those that were put
 pub put-first : (d xs : List ℕ) → length xs ≤ length d → take (length xs) (putAt d 0 xs) ≡ xs
 put-first d xs h = rw (put-start d xs h) (take-at xs (drop (length xs) d) (length xs) refl)
+
+-- behind an element that stands first, bytes are put into the rest
+put-behind : (a : ℕ) (d : List ℕ) (at : ℕ) (xs : List ℕ) → putAt (a ∷ d) (suc at) xs ≡ a ∷ putAt d at xs
+put-behind a d at [] = refl
+put-behind a d at (x ∷ xs) = put-behind a (set d at x) (suc at) xs
+
+-- of a string that may be too long the first bytes are put
+pub put-fitting : (d xs : List ℕ) → take (min (length xs) (length d)) (putAt d 0 xs) ≡ take (length d) xs
+put-fitting [] xs = rw (min-zero (length xs))
+put-fitting (a ∷ d) [] = rw (zero-min (suc (length d)))
+put-fitting (a ∷ d) (x ∷ xs) =
+    rw (suc-min-suc (length xs) (length d), put-behind x d 0 xs) (ap (λ (l : List ℕ). x ∷ l) (put-fitting d xs))

@@ -1,0 +1,66 @@
+-- An answer of the frame functions, as a report; and each part of a report can be read off it.
+use mathlib.Core.Path.{_≡_, refl, sym, ap, _∙_}
+use mathlib.Core.List.{List}
+use Prim.Native.Nat.{ℕ, _+_, _*_, _/_, _%_, _≤_, _<_}
+use native.Mathlib.Omega.{arith}
+use lib.ListN.{length}
+use Rattle.frame.specs.Content as content
+use Rattle.frame.specs.Writing as writing
+use Rattle.frame.specs.Answers.{readAnswer, writeAnswer}
+use Rattle.frame.specs.declared.content.FrameRead.the-variants as read
+use Rattle.frame.specs.declared.writer.Written.the-variants as written
+use Rattle.host.specs.Report.{reportOf, readReport, writtenReport}
+
+pub read-refused : (found : content.Read) (n : ℕ) → read.Refused n ≡ readAnswer found → reportOf n 0 0 0 ≡ readReport found
+read-refused (content.frame k q p) n e = let z : _≡_ {A = ℕ} 0 1 = cc in absurd (omega arith)
+read-refused (content.refused m) n e = let same : n ≡ m = cc in rw same
+
+pub read-frame : (found : content.Read) (k q n : ℕ) → read.Frame k q n ≡ readAnswer found → reportOf 0 k q n ≡ readReport found
+read-frame (content.frame k₁ q₁ p) k q n e =
+    let kind : k ≡ k₁ = cc in
+    let sequence : q ≡ q₁ = cc in
+    let size : n ≡ length p = cc in
+    rw (kind, sequence, size)
+read-frame (content.refused m) k q n e = let z : _≡_ {A = ℕ} 0 1 = cc in absurd (omega arith)
+
+pub read-size : (found : content.Read) (k q n limit : ℕ)
+    → ((k₁ q₁ : ℕ) (p : List ℕ) → found ≡ content.frame k₁ q₁ p → length p ≤ limit) → read.Frame k q n ≡ readAnswer found → n ≤ limit
+read-size (content.frame k₁ q₁ p) k q n limit bound e =
+    let size : n ≡ length p = cc in
+    rw size (bound k₁ q₁ p refl)
+read-size (content.refused m) k q n limit bound e = let z : _≡_ {A = ℕ} 0 1 = cc in absurd (omega arith)
+
+pub write-refused : (result : writing.Written) (n : ℕ) → written.Refused n ≡ writeAnswer result → reportOf n 0 0 0 ≡ writtenReport result
+write-refused (writing.written sent) n e = let z : _≡_ {A = ℕ} 0 1 = cc in absurd (omega arith)
+write-refused (writing.refused m) n e = let same : n ≡ m = cc in rw same
+
+pub write-length : (result : writing.Written) (n : ℕ) → written.Length n ≡ writeAnswer result → reportOf 0 0 0 n ≡ writtenReport result
+write-length (writing.written sent) n e = let size : n ≡ length sent = cc in rw size
+write-length (writing.refused m) n e = let z : _≡_ {A = ℕ} 0 1 = cc in absurd (omega arith)
+
+pub write-size : (result : writing.Written) (n limit : ℕ)
+    → ((sent : List ℕ) → result ≡ writing.written sent → length sent ≤ limit) → written.Length n ≡ writeAnswer result → n ≤ limit
+write-size (writing.written sent) n limit bound e =
+    let size : n ≡ length sent = cc in
+    rw size (bound sent refl)
+write-size (writing.refused m) n limit bound e = let z : _≡_ {A = ℕ} 0 1 = cc in absurd (omega arith)
+
+-- the parts, as the header's accessors read them
+pub record Parts (report number kind sequence size : ℕ) : Type 0 where
+  pub of-number : report % 0x100 ≡ number
+  pub of-kind : report / 0x100 % 0x100 ≡ kind
+  pub of-sequence : report / 0x10000 % 0x100 ≡ sequence
+  pub of-size : report / 0x1000000 % 0x10000 ≡ size
+  pub of-place : report / 0x10000000000 ≡ 0
+
+-- THEOREM. Each part of a report is read off it as it was put in.
+pub parts-read : (number kind sequence size : ℕ) → number < 0x100 → kind < 0x100 → sequence < 0x100 → size < 0x10000
+    → Parts (reportOf number kind sequence size) number kind sequence size
+parts-read number kind sequence size a b c d =
+    record {
+      of-number = omega arith;
+      of-kind = omega arith;
+      of-sequence = omega arith;
+      of-size = omega arith;
+      of-place = omega arith;
+    }

@@ -1,0 +1,76 @@
+#define _POSIX_C_SOURCE 200809L
+
+#include "line.h"
+
+#include <errno.h>
+#include <fcntl.h>
+#include <termios.h>
+#include <unistd.h>
+
+/* Eight data bits, and every byte passes as it is. The speed stays as it was set. */
+static int set_raw(int descriptor)
+{
+    struct termios settings;
+    if (tcgetattr(descriptor, &settings) != 0)
+        return -1;
+    settings.c_iflag &= ~(tcflag_t)(IGNBRK | BRKINT | PARMRK | INPCK | ISTRIP | INLCR | IGNCR |
+                                    ICRNL | IXON | IXOFF);
+    settings.c_oflag &= ~(tcflag_t)OPOST;
+    settings.c_lflag &= ~(tcflag_t)(ECHO | ECHONL | ICANON | ISIG | IEXTEN);
+    settings.c_cflag &= ~(tcflag_t)(CSIZE | PARENB);
+    settings.c_cflag |= CS8 | CREAD | CLOCAL;
+    settings.c_cc[VMIN] = 1;
+    settings.c_cc[VTIME] = 0;
+    return tcsetattr(descriptor, TCSANOW, &settings);
+}
+
+/* Opened without waiting for a carrier, for reading and writing if the path allows both. */
+static int open_path(const char *path)
+{
+    int descriptor = open(path, O_RDWR | O_NOCTTY | O_NONBLOCK);
+    if (descriptor < 0)
+        descriptor = open(path, O_RDONLY | O_NOCTTY | O_NONBLOCK);
+    return descriptor;
+}
+
+int line_open(struct line *line, const char *path)
+{
+    line->descriptor = STDIN_FILENO;
+    line->is_device = 0;
+    if (path == NULL)
+        return 0;
+    line->descriptor = open_path(path);
+    if (line->descriptor < 0)
+        return -1;
+    if (fcntl(line->descriptor, F_SETFL, 0) != 0)
+        return -1;
+    line->is_device = isatty(line->descriptor);
+    return line->is_device ? set_raw(line->descriptor) : 0;
+}
+
+int line_read(const struct line *line, uint8_t *bytes, size_t room)
+{
+    ssize_t count;
+    do
+        count = read(line->descriptor, bytes, room);
+    while (count < 0 && errno == EINTR);
+    if (count < 0 && errno == EIO && line->is_device)
+        return 0;
+    return (int)count;
+}
+
+int line_reply(const struct line *line, const uint8_t *bytes, size_t length)
+{
+    if (!line->is_device)
+        return 0;
+    while (length != 0) {
+        ssize_t count = write(line->descriptor, bytes, length);
+        if (count < 0 && errno == EINTR)
+            continue;
+        if (count < 0)
+            return -1;
+        bytes += count;
+        length -= (size_t)count;
+    }
+    return 0;
+}

@@ -1,0 +1,190 @@
+//! The frame rules of document 01, sections "Refusal numbers" and "Frames", written for reading
+//! and not for speed. The differential test holds the library to this.
+
+pub const FLAG: u8 = 0x7e;
+pub const ESCAPE: u8 = 0x7d;
+pub const PAYLOAD_MAX: usize = 383;
+pub const CONTENT_MAX: usize = 387;
+
+/// Why a call was refused. Two reasons share number 1.
+#[derive(Clone, Copy, Debug, PartialEq, Eq)]
+pub enum Refusal {
+    WrongFlags,
+    WrongEscape,
+    LongContent,
+    ShortContent,
+    WrongCheck,
+    ShortOutput,
+    LongPayload,
+}
+
+impl Refusal {
+    pub fn number(self) -> u8 {
+        match self {
+            Refusal::WrongFlags | Refusal::WrongEscape => 1,
+            Refusal::LongContent => 2,
+            Refusal::ShortContent => 3,
+            Refusal::WrongCheck => 4,
+            Refusal::ShortOutput => 7,
+            Refusal::LongPayload => 8,
+        }
+    }
+}
+
+#[derive(Clone, Debug, PartialEq, Eq)]
+pub struct Frame {
+    pub kind: u8,
+    pub sequence: u8,
+    pub payload: Vec<u8>,
+}
+
+/// Polynomial 0x1021, one bit of the message after the other, high bit of each byte first.
+pub fn check(start: u16, bytes: &[u8]) -> u16 {
+    let bits = bytes
+        .iter()
+        .flat_map(|byte| (0..8).rev().map(move |bit| byte >> bit & 1 == 1));
+    bits.fold(start, |register, bit| {
+        let falls_out = register & 0x8000 != 0;
+        let shifted = register << 1;
+        if falls_out != bit {
+            shifted ^ 0x1021
+        } else {
+            shifted
+        }
+    })
+}
+
+/// Each 7e becomes 7d 5e, each 7d becomes 7d 5d, no other byte is escaped.
+pub fn stuff(content: &[u8]) -> Vec<u8> {
+    let mut sent = Vec::new();
+    for &byte in content {
+        match byte {
+            FLAG => sent.extend([ESCAPE, 0x5e]),
+            ESCAPE => sent.extend([ESCAPE, 0x5d]),
+            plain => sent.push(plain),
+        }
+    }
+    sent
+}
+
+/// The content of the bytes between two flags, or the fault that comes first.
+fn unstuff(sent: &[u8]) -> Result<Vec<u8>, Refusal> {
+    let mut content = Vec::new();
+    let mut bytes = sent.iter();
+    while let Some(&byte) = bytes.next() {
+        let plain = if byte == ESCAPE {
+            match bytes.next() {
+                Some(0x5e) => FLAG,
+                Some(0x5d) => ESCAPE,
+                _ => return Err(Refusal::WrongEscape),
+            }
+        } else {
+            byte
+        };
+        content.push(plain);
+        if content.len() > CONTENT_MAX {
+            return Err(Refusal::LongContent);
+        }
+    }
+    Ok(content)
+}
+
+/// Type, sequence, payload and check of any length, between flags.
+pub fn enclose(kind: u8, sequence: u8, payload: &[u8]) -> Vec<u8> {
+    let mut content = vec![kind, sequence];
+    content.extend(payload);
+    content.extend(check(0xffff, &content).to_be_bytes());
+    let mut frame = vec![FLAG];
+    frame.extend(stuff(&content));
+    frame.push(FLAG);
+    frame
+}
+
+/// The frame writer: the bytes of the frame, or 8, then 7.
+pub fn write_frame(
+    kind: u8,
+    sequence: u8,
+    payload: &[u8],
+    room: usize,
+) -> Result<Vec<u8>, Refusal> {
+    if payload.len() > PAYLOAD_MAX {
+        return Err(Refusal::LongPayload);
+    }
+    let frame = enclose(kind, sequence, payload);
+    if room < frame.len() {
+        return Err(Refusal::ShortOutput);
+    }
+    Ok(frame)
+}
+
+/// The reader of one whole frame: 7, then the flags, then 1 and 2 by whichever comes first, 3, 4.
+pub fn read_frame(bytes: &[u8], room: usize) -> Result<Frame, Refusal> {
+    if room < PAYLOAD_MAX {
+        return Err(Refusal::ShortOutput);
+    }
+    let [FLAG, between @ .., FLAG] = bytes else {
+        return Err(Refusal::WrongFlags);
+    };
+    if between.contains(&FLAG) {
+        return Err(Refusal::WrongFlags);
+    }
+    let content = unstuff(between)?;
+    let [kind, sequence, payload @ .., _, _] = content.as_slice() else {
+        return Err(Refusal::ShortContent);
+    };
+    if check(0xffff, &content) != 0 {
+        return Err(Refusal::WrongCheck);
+    }
+    Ok(Frame {
+        kind: *kind,
+        sequence: *sequence,
+        payload: payload.to_vec(),
+    })
+}
+
+#[cfg(test)]
+mod known_answers {
+    use super::*;
+
+    /// Known answers 1 to 4: the parts and the frame they are sent as.
+    fn frames() -> [(Frame, Vec<u8>); 4] {
+        let part = |sequence, payload: &[u8]| Frame {
+            kind: 2,
+            sequence,
+            payload: payload.to_vec(),
+        };
+        [
+            (
+                part(1, &[0x7a, 0x7b, 0x7c, 0x7d, 0x7e]),
+                vec![
+                    0x7e, 2, 1, 0x7a, 0x7b, 0x7c, 0x7d, 0x5d, 0x7d, 0x5e, 0x9f, 0xfa, 0x7e,
+                ],
+            ),
+            (part(1, &[]), vec![0x7e, 2, 1, 0x6b, 0x4c, 0x7e]),
+            (part(0, &[]), vec![0x7e, 2, 0, 0x7b, 0x6d, 0x7e]),
+            (part(0x7d, &[]), vec![0x7e, 2, 0x7d, 0x5d, 0xd4, 0x57, 0x7e]),
+        ]
+    }
+
+    #[test]
+    fn written() {
+        for (parts, sent) in frames() {
+            let frame = write_frame(parts.kind, parts.sequence, &parts.payload, sent.len());
+            assert_eq!(frame, Ok(sent));
+        }
+    }
+
+    #[test]
+    fn read() {
+        for (parts, sent) in frames() {
+            assert_eq!(read_frame(&sent, PAYLOAD_MAX), Ok(parts));
+        }
+    }
+
+    #[test]
+    fn checks() {
+        assert_eq!(check(0xffff, b""), 0xffff);
+        assert_eq!(check(0xffff, b"123456789"), 0x29b1);
+        assert_eq!(check(0, b"123456789"), 0x31c3);
+    }
+}

@@ -1,0 +1,41 @@
+// The header as C++: its accessors on a report with every field set, and calls with NULL.
+#include "arznavik.h"
+
+extern "C" {
+#include "expect.h"
+}
+
+static void accessors()
+{
+    const uint64_t report = UINT64_C(0xabcdef0123456708);
+    expect_number("refusal", arznavik_refusal(report), ARZNAVIK_LONG_PAYLOAD);
+    expect_number("type", arznavik_type(report), 0x67);
+    expect_number("sequence", arznavik_sequence(report), 0x45);
+    expect_number("length", arznavik_length(report), 0x0123);
+    expect_number("place", arznavik_place(report), 0xabcdef);
+}
+
+// An empty slice may have the address NULL.
+static void null_slices()
+{
+    static const uint8_t acknowledgement[] = {0x7e, 0x02, 0x01, 0x6b, 0x4c, 0x7e};
+    uint8_t output[ARZNAVIK_FRAME_MAX] = {0};
+    expect_number("check of NULL", arznavik_crc_of(ARZNAVIK_CRC_START, nullptr, 0), 0xffff);
+    expect_number("NULL payload", arznavik_write_frame(2, 1, nullptr, 0, output, sizeof output),
+                  uint64_t(sizeof acknowledgement) << 24);
+    expect_bytes("NULL payload", output, acknowledgement, sizeof acknowledgement);
+    expect_number("NULL frame", arznavik_check_frame(nullptr, 0, output, sizeof output),
+                  ARZNAVIK_BAD_FRAMING);
+    expect_number("NULL output of the writer", arznavik_write_frame(2, 1, nullptr, 0, nullptr, 0),
+                  ARZNAVIK_SHORT_OUTPUT);
+    expect_number("NULL output of the check", arznavik_check_frame(output, 6, nullptr, 0),
+                  ARZNAVIK_SHORT_OUTPUT);
+    expect_bytes("output stays", output, acknowledgement, sizeof acknowledgement);
+}
+
+int main()
+{
+    accessors();
+    null_slices();
+    return expect_summary("header in C++");
+}

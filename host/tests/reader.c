@@ -1,0 +1,133 @@
+/* The frame check's refusals, their order, and the limits at which they begin. */
+#include "arznavik.h"
+
+#include "calls.h"
+#include "expect.h"
+
+#include <string.h>
+
+#define ENOUGH ARZNAVIK_PAYLOAD_MAX
+
+/* The acknowledgement of known answer 2. */
+static const uint8_t good[] = {0x7e, 0x02, 0x01, 0x6b, 0x4c, 0x7e};
+
+static void output_room(void)
+{
+    static const uint8_t no_flags[] = {0x02, 0x01};
+    struct parts parts = {0x02, 0x01, NULL, 0};
+    expect_taken("output of 383", good, sizeof good, ENOUGH, parts);
+    expect_taken("output of 384", good, sizeof good, ENOUGH + 1, parts);
+    expect_refused("output of 382", good, sizeof good, ENOUGH - 1, ARZNAVIK_SHORT_OUTPUT);
+    expect_refused("output of 0", good, sizeof good, 0, ARZNAVIK_SHORT_OUTPUT);
+    expect_refused("room before flags", no_flags, 2, ENOUGH - 1, ARZNAVIK_SHORT_OUTPUT);
+    expect_refused("room before no bytes", no_flags, 0, ENOUGH - 1, ARZNAVIK_SHORT_OUTPUT);
+}
+
+static void flags(void)
+{
+    static const uint8_t between[] = {0x7e, 0x02, 0x01, 0x7e, 0x6b, 0x4c, 0x7e};
+    static const uint8_t two_frames[] = {0x7e, 0x02, 0x01, 0x6b, 0x4c, 0x7e,
+                                         0x02, 0x00, 0x7b, 0x6d, 0x7e};
+    static const uint8_t three[] = {0x7e, 0x7e, 0x7e};
+    static const uint8_t after_escape[] = {0x7e, 0x7d, 0x41, 0x7e, 0x7e};
+    expect_refused("no bytes", good, 0, ENOUGH, ARZNAVIK_BAD_FRAMING);
+    expect_refused("one flag", good, 1, ENOUGH, ARZNAVIK_BAD_FRAMING);
+    expect_refused("no first flag", good + 1, sizeof good - 1, ENOUGH, ARZNAVIK_BAD_FRAMING);
+    expect_refused("no last flag", good, sizeof good - 1, ENOUGH, ARZNAVIK_BAD_FRAMING);
+    expect_refused("no flag", good + 1, sizeof good - 2, ENOUGH, ARZNAVIK_BAD_FRAMING);
+    expect_refused("a flag between", between, sizeof between, ENOUGH, ARZNAVIK_BAD_FRAMING);
+    expect_refused("two frames", two_frames, sizeof two_frames, ENOUGH, ARZNAVIK_BAD_FRAMING);
+    expect_refused("three flags", three, sizeof three, ENOUGH, ARZNAVIK_BAD_FRAMING);
+    expect_refused("flags and an escape", after_escape, sizeof after_escape, ENOUGH,
+                   ARZNAVIK_BAD_FRAMING);
+}
+
+/* 7d with the closing flag is no escaped byte, whatever stands before it. */
+static void escapes(void)
+{
+    static const uint8_t other[] = {0x7e, 0x02, 0x7d, 0x41, 0xd4, 0x57, 0x7e};
+    static const uint8_t twice[] = {0x7e, 0x02, 0x7d, 0x7d, 0x5d, 0xd4, 0x57, 0x7e};
+    static const uint8_t at_end[] = {0x7e, 0x02, 0x01, 0x6b, 0x4c, 0x7d, 0x7e};
+    static const uint8_t alone[] = {0x7e, 0x7d, 0x7e};
+    expect_refused("escape and 41", other, sizeof other, ENOUGH, ARZNAVIK_BAD_FRAMING);
+    expect_refused("escape and escape", twice, sizeof twice, ENOUGH, ARZNAVIK_BAD_FRAMING);
+    expect_refused("escape before the flag", at_end, sizeof at_end, ENOUGH, ARZNAVIK_BAD_FRAMING);
+    expect_refused("nothing but an escape", alone, sizeof alone, ENOUGH, ARZNAVIK_BAD_FRAMING);
+}
+
+/* A frame of `plain` bytes 41 and then the tail, between flags. */
+static void expect_refused_long(const char *what, size_t plain, const char *tail, unsigned refusal)
+{
+    static uint8_t frame[CALLS_ROOM];
+    size_t tail_length = strlen(tail);
+    frame[0] = ARZNAVIK_FLAG;
+    memset(frame + 1, 0x41, plain);
+    memcpy(frame + 1 + plain, tail, tail_length);
+    frame[1 + plain + tail_length] = ARZNAVIK_FLAG;
+    expect_refused(what, frame, plain + tail_length + 2, ENOUGH, refusal);
+}
+
+static void long_content(void)
+{
+    expect_refused_long("content of 387", 387, "", ARZNAVIK_BAD_CHECK);
+    expect_refused_long("content of 388", 388, "", ARZNAVIK_LONG_CONTENT);
+    expect_refused_long("content of 1,000", 1000, "", ARZNAVIK_LONG_CONTENT);
+    expect_refused_long("a pair is the 387th byte", 386, "\x7d\x5e", ARZNAVIK_BAD_CHECK);
+    expect_refused_long("a pair is the 388th byte", 387, "\x7d\x5d", ARZNAVIK_LONG_CONTENT);
+    expect_refused_long("387 bytes, a bad pair", 387, "\x7d\x41", ARZNAVIK_BAD_FRAMING);
+    expect_refused_long("387 bytes, a last escape", 387, "\x7d", ARZNAVIK_BAD_FRAMING);
+    expect_refused_long("388 bytes, a bad pair", 388, "\x7d\x41", ARZNAVIK_LONG_CONTENT);
+    expect_refused_long("388 bytes, a last escape", 388, "\x7d", ARZNAVIK_LONG_CONTENT);
+}
+
+static void short_content(void)
+{
+    static const uint8_t three[] = {0x7e, 0x7d, 0x5e, 0x7d, 0x5d, 0x7d, 0x5e, 0x7e};
+    static const uint8_t zero_check[] = {0x7e, 0xff, 0xff, 0x7e};
+    expect_refused_long("content of 0", 0, "", ARZNAVIK_SHORT_CONTENT);
+    expect_refused_long("content of 1", 1, "", ARZNAVIK_SHORT_CONTENT);
+    expect_refused_long("content of 2", 2, "", ARZNAVIK_SHORT_CONTENT);
+    expect_refused_long("content of 3", 3, "", ARZNAVIK_SHORT_CONTENT);
+    expect_refused("content of 3 pairs", three, sizeof three, ENOUGH, ARZNAVIK_SHORT_CONTENT);
+    expect_number("ffff has check 0", arznavik_crc_of(ARZNAVIK_CRC_START, zero_check + 1, 2), 0);
+    expect_refused("content of 2 with check 0", zero_check, sizeof zero_check, ENOUGH,
+                   ARZNAVIK_SHORT_CONTENT);
+    expect_refused_long("content of 4", 4, "", ARZNAVIK_BAD_CHECK);
+}
+
+/* Each single bit of the content of known answer 2; the flags stay. */
+static void bad_check(void)
+{
+    uint8_t frame[sizeof good];
+    for (unsigned bit = 8; bit < 8 * (sizeof good - 1); bit++) {
+        memcpy(frame, good, sizeof good);
+        frame[bit / 8] ^= (uint8_t)(1 << bit % 8);
+        expect_refused("one bit flipped", frame, sizeof frame, ENOUGH, ARZNAVIK_BAD_CHECK);
+    }
+}
+
+/* Types outside 01 and 02, and an acknowledgement with a payload, are handed back. */
+static void any_type(void)
+{
+    static const uint8_t payload[] = {0x05, 0x7e};
+    uint8_t frame[ARZNAVIK_FRAME_MAX];
+    for (unsigned type = 0; type < 256; type++) {
+        struct parts parts = {(uint8_t)type, (uint8_t)(255 - type), payload, sizeof payload};
+        uint64_t report = arznavik_write_frame(parts.type, parts.sequence, payload, sizeof payload,
+                                               frame, sizeof frame);
+        expect_number("any type is written", arznavik_refusal(report), ARZNAVIK_TAKEN);
+        expect_taken("any type is read back", frame, arznavik_length(report), ENOUGH, parts);
+    }
+}
+
+int main(void)
+{
+    output_room();
+    flags();
+    escapes();
+    long_content();
+    short_content();
+    bad_check();
+    any_type();
+    return expect_summary("reader");
+}

@@ -11,6 +11,7 @@ use Rattle.frame.specs.Content as content
 use Rattle.frame.specs.Content.{judged}
 use Rattle.frame.specs.Writing.{frameOf}
 use Rattle.link.specs.declared.counts.Counts.{Counts}
+use Rattle.link.specs.declared.counts.Event.the-variants as event
 use Rattle.link.specs.declared.reader.Ended.{Ended}
 use Rattle.link.specs.declared.reader.Ended.the-variants as ends
 use Rattle.link.specs.declared.receiver.Last.{Last}
@@ -18,7 +19,7 @@ use Rattle.link.specs.declared.receiver.Last.the-variants.{None, Sequenc
 use Rattle.link.specs.declared.receiver.Answer.{Answer}
 use Rattle.link.specs.declared.receiver.Answer.the-variants as says
 use Rattle.link.specs.declared.receiver.Closed.{Closed}
-use Rattle.link.specs.Counts.{withNew, withAgain, withHeard, withRefused}
+use Rattle.link.specs.Counts.{countOf}
 
 abbrev pub dataType : ℕ
 dataType = 0x01
@@ -51,13 +52,13 @@ pub record Outcome : Type 0 where
 -- 01, Refusal numbers: a frame refused by 1 to 6 adds one to its count
 abbrev pub refusedFrame : ℕ → Last → Counts → Outcome
 refusedFrame n previous before =
-    record { last = previous; counts = withRefused n before; answer = says.Refused n; reply = []; packet = [] }
+    record { last = previous; counts = countOf (event.Refused n) before; answer = says.Refused n; reply = []; packet = [] }
 
 -- a valid type 02 is heard, with its sequence reported; with a payload it is refusal 6
 abbrev pub acknowledgementFrame : ℕ → ℕ → Last → Counts → Outcome
 acknowledgementFrame sequence size previous before =
     cond (eqb size 0)
-    (record { last = previous; counts = withHeard before; answer = says.Heard sequence; reply = []; packet = [] })
+    (record { last = previous; counts = countOf event.Heard before; answer = says.Heard sequence; reply = []; packet = [] })
     (refusedFrame loadedAcknowledgement previous before)
 
 -- a repeated data frame is answered and dropped: the packet buffer is untouched
@@ -65,7 +66,7 @@ abbrev pub againFrame : ℕ → Last → Counts → Outcome
 againFrame sequence previous before =
     record {
       last = previous;
-      counts = withAgain before;
+      counts = countOf event.Again before;
       answer = says.Again (length (acknowledgement sequence));
       reply = acknowledgement sequence;
       packet = [];
@@ -76,7 +77,7 @@ abbrev pub newFrame : ℕ → List ℕ → Counts → Outcome
 newFrame sequence payload before =
     record {
       last = Sequence sequence;
-      counts = withNew before;
+      counts = countOf event.New before;
       answer = says.New (length (acknowledgement sequence)) (length payload);
       reply = acknowledgement sequence;
       packet = payload;

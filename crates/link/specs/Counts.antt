@@ -1,8 +1,12 @@
 -- 01, The receiver: the ten counts are new, again, heard, unread and refusals 1 to 6.
-use Prim.Native.Nat.{ℕ, zero, suc, _+_, _%_}
+use Prim.Native.Nat.{ℕ, zero, suc, _+_, _-_, _%_}
+use mathlib.Core.Bool.{cond}
 use mathlib.Core.List.{List}
+use lib.Dec.{eqb}
 use lib.ListN.{getD, set, replicate}
 use Rattle.link.specs.declared.counts.Counts.{Counts}
+use Rattle.link.specs.declared.counts.Event.{Event}
+use Rattle.link.specs.declared.counts.Event.the-variants.{New, Again, Heard, Unread, Refused}
 
 abbrev pub noCounts : Counts
 noCounts = record { new = 0; again = 0; heard = 0; unread = 0; refused = replicate 6 0 }
@@ -11,27 +15,19 @@ noCounts = record { new = 0; again = 0; heard = 0; unread = 0; refused = replica
 abbrev pub plusOne : ℕ → ℕ
 plusOne n = (n + 1) % 65536
 
-abbrev pub withNew : Counts → Counts
-withNew counts =
-    record { new = plusOne (counts .new); again = counts .again; heard = counts .heard; unread = counts .unread; refused = counts .refused }
-
-abbrev pub withAgain : Counts → Counts
-withAgain counts =
-    record { new = counts .new; again = plusOne (counts .again); heard = counts .heard; unread = counts .unread; refused = counts .refused }
-
-abbrev pub withHeard : Counts → Counts
-withHeard counts =
-    record { new = counts .new; again = counts .again; heard = plusOne (counts .heard); unread = counts .unread; refused = counts .refused }
-
-abbrev pub withUnread : Counts → Counts
-withUnread counts =
-    record { new = counts .new; again = counts .again; heard = counts .heard; unread = plusOne (counts .unread); refused = counts .refused }
-
--- the counts of refusals 1 to 6, with refusal n counted; a number beyond counts nothing
+-- in the counts of refusals 1 to 6, one more of refusal n; there is no refusal 0
 abbrev pub plusOneAt : ℕ → List ℕ → List ℕ
-plusOneAt zero refused = refused
-plusOneAt (suc place) refused = set refused place (plusOne (getD refused place 0))
+plusOneAt n counts = cond (eqb n 0) counts (set counts (n - 1) (plusOne (getD counts (n - 1) 0)))
 
-abbrev pub withRefused : ℕ → Counts → Counts
-withRefused n counts =
-    record { new = counts .new; again = counts .again; heard = counts .heard; unread = counts .unread; refused = plusOneAt n (counts .refused) }
+-- the counts with one event more
+abbrev pub countOf : Event → Counts → Counts
+countOf New c =
+    record { new = plusOne (c .new); again = c .again; heard = c .heard; unread = c .unread; refused = c .refused }
+countOf Again c =
+    record { new = c .new; again = plusOne (c .again); heard = c .heard; unread = c .unread; refused = c .refused }
+countOf Heard c =
+    record { new = c .new; again = c .again; heard = plusOne (c .heard); unread = c .unread; refused = c .refused }
+countOf Unread c =
+    record { new = c .new; again = c .again; heard = c .heard; unread = plusOne (c .unread); refused = c .refused }
+countOf (Refused n) c =
+    record { new = c .new; again = c .again; heard = c .heard; unread = c .unread; refused = plusOneAt n (c .refused) }

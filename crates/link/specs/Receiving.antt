@@ -9,13 +9,14 @@ use Rattle.refusals.specs.Numbers.{shortOutput}
 use Rattle.slices.specs.Put.{putAt}
 use Rattle.frame.specs.Stuffing.{contentMax}
 use Rattle.frame.specs.Content.{payloadMax}
+use Rattle.link.specs.declared.counts.Event.the-variants as event
 use Rattle.link.specs.declared.reader.Phase.the-variants.{Before}
 use Rattle.link.specs.declared.receiver.Last.the-variants.{None}
 use Rattle.link.specs.declared.receiver.Answer.{Answer}
 use Rattle.link.specs.declared.receiver.Answer.the-variants as says
 use Rattle.link.specs.declared.receiver.Link.{Link}
 use Rattle.link.specs.declared.receiver.Received.{Received}
-use Rattle.link.specs.Counts.{noCounts, withUnread}
+use Rattle.link.specs.Counts.{noCounts, countOf}
 use Rattle.link.specs.Walk.{Walk, walkOf}
 use Rattle.link.specs.Closing.{replyRoom, Outcome, closeOf}
 
@@ -57,7 +58,7 @@ freshLink = record { content = replicate contentMax 0; reader = record { phase =
 
 -- 01, Refusal numbers: a packet refused by the board adds one to the unread count
 abbrev pub withUnreadPacket : Link → Link
-withUnreadPacket state = record { content = state .content; reader = state .reader; last = state .last; counts = withUnread (state .counts) }
+withUnreadPacket state = record { content = state .content; reader = state .reader; last = state .last; counts = countOf event.Unread (state .counts) }
 
 -- how the code answers a call
 abbrev pub receivedBy : Call → Received

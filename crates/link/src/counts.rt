@@ -1,7 +1,9 @@
 // The ten counts. Each goes from 65,535 back to 0.
 ghost use mathlib.Core.Path.{_≡_};
-ghost use Prim.Native.Nat.{_≤_};
-ghost use Rattle.link.specs.Counts.{noCounts, withNew, withAgain, withHeard, withUnread, withRefused};
+ghost use Rattle.link.specs.Counts.{noCounts, plusOne, countOf};
+
+// How many refusals a frame can meet.
+pub const FRAME_REFUSALS: usize = 6;
 
 // `refused` holds the counts of refusals 1 to 6, in this order.
 pub struct Counts {
@@ -9,7 +11,17 @@ pub struct Counts {
     pub again: u16,
     pub heard: u16,
     pub unread: u16,
-    pub refused: [u16; 6],
+    pub refused: [u16; FRAME_REFUSALS],
+}
+
+// What is counted: a data frame that is new or came again, an acknowledgement that was heard, a
+// packet that was not read, a frame that was refused with a number.
+pub enum Event {
+    New,
+    Again,
+    Heard,
+    Unread,
+    Refused(u8),
 }
 
 pub fn none() -> Counts
@@ -20,55 +32,55 @@ pub fn none() -> Counts
         again: 0,
         heard: 0,
         unread: 0,
-        refused: [0u16; 6],
+        refused: [0u16; FRAME_REFUSALS],
     }
 }
 
-pub fn count_new(counts: Counts) -> Counts
-    ensures { λ r. ⌜ r ≡ withNew counts ⌝ }
+// The counts with one event more.
+pub fn count(counts: Counts, event: Event) -> Counts
+    ensures { λ r. ⌜ r ≡ countOf event counts ⌝ }
 {
     let mut next = counts;
-    next.new = std::num::wrapping_add_u16(counts.new, 1);
+    match event {
+        Event::New => {
+            next.new = more(counts.new);
+        }
+        Event::Again => {
+            next.again = more(counts.again);
+        }
+        Event::Heard => {
+            next.heard = more(counts.heard);
+        }
+        Event::Unread => {
+            next.unread = more(counts.unread);
+        }
+        Event::Refused(number) => {
+            return count_refused(counts, number);
+        }
+    }
     next
 }
 
-pub fn count_again(counts: Counts) -> Counts
-    ensures { λ r. ⌜ r ≡ withAgain counts ⌝ }
-{
-    let mut next = counts;
-    next.again = std::num::wrapping_add_u16(counts.again, 1);
-    next
-}
-
-pub fn count_heard(counts: Counts) -> Counts
-    ensures { λ r. ⌜ r ≡ withHeard counts ⌝ }
-{
-    let mut next = counts;
-    next.heard = std::num::wrapping_add_u16(counts.heard, 1);
-    next
-}
-
-pub fn count_unread(counts: Counts) -> Counts
-    ensures { λ r. ⌜ r ≡ withUnread counts ⌝ }
-{
-    let mut next = counts;
-    next.unread = std::num::wrapping_add_u16(counts.unread, 1);
-    next
-}
-
-// Counts the refusal of a frame, of which there are six. Another number counts nothing.
-pub fn count_refused(counts: Counts, number: u8) -> Counts
-    ensures { λ r. ⌜ r ≡ withRefused number counts ⌝ }
+// Counts the refusal of a frame. Another refusal has no count.
+fn count_refused(counts: Counts, number: u8) -> Counts
+    ensures { λ r. ⌜ r ≡ countOf (Event.Refused number) counts ⌝ }
 {
     if number == 0 {
         return counts;
     }
     let at = number as usize - 1;
-    if 6 <= at {
+    if FRAME_REFUSALS <= at {
         return counts;
     }
     let mut next = counts;
-    let more = std::num::wrapping_add_u16(next.refused[at], 1);
-    next.refused[at] = more;
+    let before = next.refused[at];
+    let after = more(before);
+    next.refused[at] = after;
     next
+}
+
+fn more(count: u16) -> u16
+    ensures { λ r. ⌜ r ≡ plusOne count ⌝ }
+{
+    std::num::wrapping_add_u16(count, 1)
 }

@@ -128,7 +128,9 @@ fn step(reader: Reader, byte: u8, content: &mut [u8; 387]) -> Reader
                 length,
             },
         },
-        _ => reader,
+        Phase::Before => reader,
+        Phase::BadFraming => reader,
+        Phase::LongContent => reader,
     }
 }
 

@@ -1,10 +1,8 @@
 // The receiver: a piece of the line's bytes goes in with the link's state, and the state comes back
 // with what the piece brought.
 use crate::counts::Counts;
-use crate::counts::count_again;
-use crate::counts::count_heard;
-use crate::counts::count_new;
-use crate::counts::count_refused;
+use crate::counts::Event;
+use crate::counts::count;
 use crate::counts::none;
 use crate::reader::Ended;
 use crate::reader::Phase;
@@ -89,8 +87,8 @@ pub fn count_unread(link: Link) -> Link
     ensures { λ r. ⌜ r ≡ withUnreadPacket link ⌝ }
 {
     let mut next = link;
-    let counts = crate::counts::count_unread(link.counts);
-    next.counts = counts;
+    let counted = count(link.counts, Event::Unread);
+    next.counts = counted;
     next
 }
 
@@ -110,16 +108,21 @@ pub fn receive(link: Link, piece: &[u8], reply: &mut [u8], packet: &mut [u8]) ->
     let start = link.reader;
     let walked = walk(piece, &mut content, start);
     let ended = walked.ended;
-    let closed = close(ended, &content, link.last, link.counts, reply, packet);
+    let previous = link.last;
+    let closed = close(ended, &content, previous, link.counts, reply, packet);
+    let reader = walked.reader;
+    let last = closed.last;
+    let counts = closed.counts;
+    let answer = closed.answer;
     Received {
         link: Link {
             content,
-            reader: walked.reader,
-            last: closed.last,
-            counts: closed.counts,
+            reader,
+            last,
+            counts,
         },
         taken: walked.taken,
-        answer: closed.answer,
+        answer,
     }
 }
 
@@ -170,7 +173,7 @@ fn within(length: usize, room: usize) -> usize
 fn refuse(number: u8, last: Last, counts: Counts) -> Closed
     ensures { λ r. ⌜ r ≡ closedBy (refusedFrame number last counts) ⌝ }
 {
-    let counted = count_refused(counts, number);
+    let counted = count(counts, Event::Refused(number));
     Closed {
         last,
         counts: counted,
@@ -215,7 +218,7 @@ fn hear(sequence: u8, length: usize, last: Last, counts: Counts) -> Closed
     if length != 0 {
         return refuse(LOADED_ACKNOWLEDGEMENT, last, counts);
     }
-    let counted = count_heard(counts);
+    let counted = count(counts, Event::Heard);
     Closed {
         last,
         counts: counted,
@@ -237,7 +240,7 @@ fn take_data(
 {
     let length = acknowledge(sequence, reply);
     if repeated(last, sequence) {
-        let counted = count_again(counts);
+        let counted = count(counts, Event::Again);
         return Closed {
             last,
             counts: counted,
@@ -245,7 +248,7 @@ fn take_data(
         };
     }
     slices::put(packet, 0, payload);
-    let counted = count_new(counts);
+    let counted = count(counts, Event::New);
     Closed {
         last: Last::Sequence(sequence),
         counts: counted,

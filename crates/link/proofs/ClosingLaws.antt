@@ -1,0 +1,115 @@
+-- A frame at its closing flag, one law for each way through the code.
+use mathlib.Core.Path.{_≡_, refl, sym, ap, _∙_}
+use mathlib.Core.Bool.{Bool, true, false}
+use mathlib.Core.List.{List, [], _∷_}
+use Prim.Native.Nat.{ℕ, _+_, _/_, _%_, _≤_, _<_, min}
+use native.Mathlib.Omega.{arith}
+use lib.Dec.{eqb, leb}
+use lib.ListN.{length, take, length-append}
+use lib.Seq.{take-all}
+use borrow.Author.Tests.{eq-eqb, ne-eqb, leb-true, leb-false}
+use Rattle.refusals.specs.Numbers.{unknownType}
+use Rattle.crc.specs.Crc.{linkStart, crcOf}
+use Rattle.frame.specs.Stuffing.{stuff}
+use Rattle.frame.specs.Content.{Read, frame, refused, contentOf, judged}
+use Rattle.frame.specs.Writing.{Written, written, writeFrame}
+use Rattle.frame.specs.Answers.{WritesAs, writeAnswer}
+use Rattle.frame.specs.declared.writer.Written as declared
+use Rattle.frame.proofs.StuffLaws.{length-stuff}
+use Rattle.frame.proofs.WriteLaws.{length-framed, content-room, payload-allowed}
+use Rattle.link.specs.declared.counts.Counts.{Counts}
+use Rattle.link.specs.declared.receiver.Last.{Last}
+use Rattle.link.specs.Closing.{dataType, acknowledgementType, replyRoom, acknowledgement, repeats, Outcome, refusedFrame, acknowledgementFrame, againFrame, newFrame, dataFrame, frameOutcome, closedBy, ClosesAs, AcknowledgesAs}
+
+-- of an acknowledgement's four bytes of content the type is not escaped
+stuffed-acknowledgement : (q h l : ℕ) → length (stuff (acknowledgementType ∷ q ∷ h ∷ l ∷ [])) ≤ 7
+unfolding stuff
+stuffed-acknowledgement q h l =
+    let three = length-stuff (q ∷ h ∷ l ∷ []) in
+    omega (arith, three)
+
+-- 01, The receiver: nine bytes are room enough for any acknowledgement
+pub acknowledgement-fits : (q : ℕ) → length (acknowledgement q) ≤ replyRoom
+unfolding acknowledgement contentOf
+acknowledgement-fits q =
+    let size = length-framed (contentOf acknowledgementType q []) in
+    let check = crcOf linkStart (acknowledgementType ∷ q ∷ []) in
+    let short = stuffed-acknowledgement q (check / 0x100) (check % 0x100) in
+    omega (arith, size, short)
+
+acknowledgement-written : (room q : ℕ) → replyRoom ≤ room → writeFrame room acknowledgementType q [] ≡ written (acknowledgement q)
+unfolding acknowledgement
+acknowledgement-written room q h =
+    let fits = acknowledgement-fits q in
+    payload-allowed room acknowledgementType q [] (omega arith)
+    ∙ content-room room (contentOf acknowledgementType q []) _ refl (omega (arith, fits))
+
+-- so the writer writes it whole
+module _ (q : ℕ) (reply : List ℕ) (answer : declared.Written) (exit : List ℕ) (h : replyRoom ≤ length reply)
+    (w : WritesAs (writeFrame (length reply) acknowledgementType q []) reply answer exit) where
+  pub acknowledged : (n : ℕ) → answer ≡ declared.the-variants.Length n → AcknowledgesAs q reply n exit
+  acknowledged n told =
+      let is = acknowledgement-written (length reply) q h in
+      let w′ = rw is at w in
+      let same : declared.the-variants.Length n ≡ declared.the-variants.Length (length (acknowledgement q)) = sym told ∙ w′ .answers in
+      record { answers = cc; replied = w′ .output }
+
+  pub not-refused : (n : ℕ) → answer ≡ declared.the-variants.Refused n → ⊥
+  not-refused n told =
+      let w′ = rw (acknowledgement-written (length reply) q h) at w in
+      let other : declared.the-variants.Refused n ≡ declared.the-variants.Length (length (acknowledgement q)) = sym told ∙ w′ .answers in
+      let z : _≡_ {A = ℕ} 0 1 = cc in omega arith
+
+module _ (q : ℕ) (payload : List ℕ) (previous : Last) (before : Counts) where
+  pub data-again : repeats previous q ≡ true → dataFrame q payload previous before ≡ againFrame q previous before
+  unfolding dataFrame
+  data-again e = rw e
+
+  pub data-new : repeats previous q ≡ false → dataFrame q payload previous before ≡ newFrame q payload before
+  unfolding dataFrame
+  data-new e = rw e
+
+-- an acknowledgement that came in puts nothing
+pub heard : (q size : ℕ) (previous : Last) (before : Counts) (reply packet : List ℕ)
+    → ClosesAs (acknowledgementFrame q size previous before) reply packet (closedBy (acknowledgementFrame q size previous before)) reply packet
+heard q size previous before reply packet = cases (eqb size 0) refl
+  where
+    cases : (t : Bool) → eqb size 0 ≡ t
+        → ClosesAs (acknowledgementFrame q size previous before) reply packet (closedBy (acknowledgementFrame q size previous before)) reply packet
+    cases true e = rw e (record { answers = refl; replied = refl; handed-out = refl })
+    cases false e = rw e (record { answers = refl; replied = refl; handed-out = refl })
+
+-- whole content, by what it was judged to be and by its type
+module _ (c : List ℕ) (previous : Last) (before : Counts) where
+  pub frame-refused : (n : ℕ) → judged c ≡ refused n → frameOutcome c previous before ≡ refusedFrame n previous before
+  unfolding frameOutcome
+  frame-refused n e = rw e
+
+  module _ (kind q : ℕ) (payload : List ℕ) (e : judged c ≡ frame kind q payload) where
+    pub frame-data : kind ≡ dataType → frameOutcome c previous before ≡ dataFrame q payload previous before
+    unfolding frameOutcome
+    frame-data is = rw (e, eq-eqb kind dataType is)
+
+    pub frame-acknowledgement : (kind ≡ dataType → ⊥) → kind ≡ acknowledgementType
+        → frameOutcome c previous before ≡ acknowledgementFrame q (length payload) previous before
+    unfolding frameOutcome
+    frame-acknowledgement other is = rw (e, ne-eqb kind dataType other, eq-eqb kind acknowledgementType is)
+
+    pub frame-unknown : (kind ≡ dataType → ⊥) → (kind ≡ acknowledgementType → ⊥)
+        → frameOutcome c previous before ≡ refusedFrame unknownType previous before
+    unfolding frameOutcome
+    frame-unknown other neither = rw (e, ne-eqb kind dataType other, ne-eqb kind acknowledgementType neither)
+
+-- a length past the end is the end
+pub take-within : (xs : List ℕ) (n m : ℕ) → m ≡ min n (length xs) → take m xs ≡ take n xs
+take-within xs n m e = cases (leb (length xs) n) refl
+  where
+    cases : (t : Bool) → leb (length xs) n ≡ t → take m xs ≡ take n xs
+    cases true f =
+        let past : length xs ≤ n = leb-true _ _ f in
+        let all : length xs ≤ m = omega arith in
+        take-all m xs all ∙ sym (take-all n xs past)
+    cases false f =
+        let inside : n < length xs = leb-false _ _ f in
+        let same : m ≡ n = omega arith in
+        rw same

@@ -1,0 +1,5 @@
+pub mod LengthLaws
+pub mod ReaderLaws
+pub mod WalkLaws
+pub mod ClosingLaws
+pub mod ReceivingLaws

@@ -1,0 +1,45 @@
+-- One byte that is no flag, one law for each way that the reader goes.
+use mathlib.Core.Path.{_≡_, refl}
+use mathlib.Core.List.{List, [], _∷_}
+use Prim.Native.Nat.{ℕ, suc, _≤_, _<_}
+use borrow.Author.Tests.{lt-ltb, le-ltb}
+use Rattle.frame.specs.Stuffing.{contentMax, plain, escaped, Meaning, meaning}
+use Rattle.link.specs.declared.reader.Phase.{Phase}
+use Rattle.link.specs.declared.reader.Phase.the-variants.{Before, Plain, Escaped, BadFraming, LongContent}
+use Rattle.link.specs.declared.reader.Reader.{Reader}
+use Rattle.link.specs.Reader.{Step, turned, storeOf, stepBy, stepOf, StepsAs}
+
+-- a byte of content is stored while there is room
+pub store-room : (held b : ℕ) → held < contentMax
+    → storeOf held b ≡ record { reader = record { phase = Plain; length = suc held }; brings = b ∷ [] }
+store-room held b h = rw (lt-ltb held contentMax h)
+
+pub store-full : (held b : ℕ) → contentMax ≤ held → storeOf held b ≡ turned LongContent held
+store-full held b h = rw (le-ltb held contentMax h)
+
+module _ (reader : Reader) (b : ℕ) where
+  pub step-plain : (m : Meaning) → reader .phase ≡ Plain → meaning plain b ≡ m → stepOf reader b ≡ stepBy m (reader .length)
+  unfolding stepOf
+  step-plain m e is = rw (e, is)
+
+  pub step-escaped : (m : Meaning) → reader .phase ≡ Escaped → meaning escaped b ≡ m → stepOf reader b ≡ stepBy m (reader .length)
+  unfolding stepOf
+  step-escaped m e is = rw (e, is)
+
+  -- before the first flag and behind a fault nothing changes
+  pub step-before : reader .phase ≡ Before → stepOf reader b ≡ turned (reader .phase) (reader .length)
+  unfolding stepOf
+  step-before e = rw e
+
+  pub step-bad : reader .phase ≡ BadFraming → stepOf reader b ≡ turned (reader .phase) (reader .length)
+  unfolding stepOf
+  step-bad e = rw e
+
+  pub step-long : reader .phase ≡ LongContent → stepOf reader b ≡ turned (reader .phase) (reader .length)
+  unfolding stepOf
+  step-long e = rw e
+
+-- a byte that brings no content leaves the array as it was
+pub turns : (step : Step) (phase : Phase) (held : ℕ) (content : List ℕ) → step ≡ turned phase held
+    → StepsAs step held content (record { phase = phase; length = held }) content
+turns step phase held content e = rw e (record { answers = refl; array = refl })

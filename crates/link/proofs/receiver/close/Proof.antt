@@ -1,0 +1,69 @@
+-- `link::receiver::close` meets its contract: each end computes to its own case, and a length past the array is all of it.
+use borrow.Author.Needs.{needs}
+use mathlib.Core.Path.{_≡_, refl, sym}
+use Prim.Native.Nat.{_≤_}
+use native.Mathlib.Omega.{arith}
+use lib.ListN.{length}
+use lib.Seq.{length-take-le}
+use Rattle.link.proofs.ClosingLaws.{take-within}
+use Rattle.link.proofs.receiver.close.Statement.{statement}
+use Rattle.link.proofs.receiver.close.Tie as tie
+
+enum-told : tie.Need-enum-told
+enum-told c = search needs
+
+enum-known-ended : tie.Need-enum-known-ended
+enum-known-ended c = search needs
+
+refuse-requires : tie.Need-refuse-requires
+refuse-requires c κs = search needs
+
+enum-known-ended-2 : tie.Need-enum-known-ended-2
+enum-known-ended-2 c = search needs
+
+within-requires : tie.Need-within-requires
+within-requires c κs = search needs
+
+slice-aggregate-take-frame : tie.Need-slice-aggregate-take-frame
+slice-aggregate-take-frame c =
+    let content = c .before .before .before .before .before .before .before .before .args .content .now in
+    let fits : c .before .within .result ≤ length content = omega (arith, c .before .within .ensures) in
+    sym (length-take-le (c .before .within .result) content fits)
+
+take-frame-requires : tie.Need-take-frame-requires
+take-frame-requires c κs = search needs
+
+returns : tie.Need-returns
+returns c = rw (c .enum-told .given .1) (record { answers = refl; replied = refl; handed-out = refl })
+
+returns-2 : tie.Need-returns-2
+returns-2 c = rw (c .before .before .ended .given .1) (record { answers = c .refuse .ensures; replied = refl; handed-out = refl })
+
+same-length : tie.Need-same-length
+same-length c = search needs
+
+same-length-2 : tie.Need-same-length-2
+same-length-2 c = search needs
+
+returns-3 : tie.Need-returns-3
+returns-3 c =
+    let content = c .before .before .before .before .before .before .before .before .before .before .before .before .before .before .before .args .content .now in
+    let told = c .before .before .before .before .before .before .before .before .before .before .ended2 .given in
+    rw (told .1, ← take-within content (told .0 .0) _ (c .before .before .before .before .before .before .before .before .within .ensures)) (c .before .before .before .before .take-frame .ensures)
+
+pub close-spec : {M : Type 1} → statement M
+close-spec =
+    tie.close
+    (tie.spec
+    enum-told
+    enum-known-ended
+    refuse-requires
+    enum-known-ended-2
+    within-requires
+    slice-aggregate-take-frame
+    take-frame-requires
+    returns
+    returns-2
+    same-length
+    same-length-2
+    returns-3)

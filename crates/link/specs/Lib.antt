@@ -1,0 +1,5 @@
+pub mod Reader
+pub mod Walk
+pub mod Counts
+pub mod Closing
+pub mod Receiving

@@ -7,8 +7,6 @@ use lib.ListN.{getD}
 use Rattle.board.proofs.ValueLaws.{boolean-long, boolean-byte}
 use Rattle.board.proofs.value.boolean.Statement.{statement}
 use Rattle.board.proofs.value.boolean.Tie as tie
-use Rattle.board.proofs.value.boolean.Reads as reads
-use Rattle.board.proofs.value.boolean.Lts as lts
 
 returns : tie.Need-returns
 returns c = rw (boolean-long (c .before .args .bytes .now) (c .if1 .taken))

@@ -13,11 +13,6 @@ use Rattle.board.specs.Value.{leastNegative, wordOf, twos}
 use Rattle.board.proofs.ValueLaws.{Wide, wide, number-wide, number-bad}
 use Rattle.board.proofs.value.number.Statement.{statement}
 use Rattle.board.proofs.value.number.Tie as tie
-use Rattle.board.proofs.value.number.Reads as reads
-use Rattle.board.proofs.value.number.Lts as lts
-use Rattle.board.proofs.value.least_negative.Reads as least-negative-reads
-use Rattle.board.proofs.value.signed.Reads as signed-reads
-use Rattle.board.proofs.value.word.Reads as word-reads
 
 -- where the half is not 0 the length is one of the four
 width : (c : tie.Else1) → Wide (length (c .before .before .before .args .bytes .now))

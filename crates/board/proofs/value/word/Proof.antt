@@ -9,8 +9,6 @@ use Rattle.board.specs.Value.{wordFrom}
 use Rattle.board.proofs.ValueLaws.{word-step, word-grows, word-fits}
 use Rattle.board.proofs.value.word.Statement.{statement}
 use Rattle.board.proofs.value.word.Tie as tie
-use Rattle.board.proofs.value.word.Reads as reads
-use Rattle.board.proofs.value.word.Lts as lts
 
 abbrev Inv-loop : tie.InvT-loop
 Inv-loop bytes sum₀ i₀ sum i = (i ≤ length bytes) × (sum < 256 ^ i) × (wordFrom sum (drop i bytes) ≡ wordFrom 0 bytes)

@@ -1,0 +1,26 @@
+-- A row has its 27 name bytes and a board its sixteen rows: owning an array says how long it is.
+use mathlib.Core.Path.{_≡_, refl, sym, ap, _∙_}
+use mathlib.Core.List.{List, map}
+use Prim.Native.Nat.{ℕ}
+use lib.ListN.{length, length-map}
+use denote.Laws.{Is}
+use denote.Struct.Declared as declared
+use denote.Struct.Laws as struct
+use mir.Val.{Val}
+use Rattle.board.specs.declared.rows.Row.{Row}
+use Rattle.board.specs.declared.rows.Board.{Board}
+use Rattle.board.specs.Rows.{nameRoom, rowCount}
+use Rattle.board.proofs.rows.Row as row-type
+use Rattle.board.proofs.rows.Row.Laws as row-laws
+use Rattle.board.proofs.rows.Board as board-type
+use Rattle.board.proofs.rows.Board.Laws as board-laws
+
+pub name-bytes : (row : Row) (vs : List Val) → Is (declared.row row-type.the-type) row vs → length (row .name) ≡ nameRoom
+name-bytes row vs p =
+    let all = struct.owed row-type.the-type row-laws.the-laws row vs p in
+    simp length-map at (all .0 .1 .0 .1)
+
+pub board-rows : (board : Board) (vs : List Val) → Is (declared.row board-type.the-type) board vs → length (board .rows) ≡ rowCount
+board-rows board vs p =
+    let all = struct.owed board-type.the-type board-laws.the-laws board vs p in
+    simp length-map at (all .0 .1 .0 .1)

@@ -1,0 +1,1 @@
+// Items, data packets, names and locations, and the four requests that the display writes.

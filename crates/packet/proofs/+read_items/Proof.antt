@@ -9,6 +9,7 @@ use mathlib.Core.Bool.{true}
 use mathlib.Core.List.{List}
 use lib.ListN.{length, getD, take, drop, length-drop}
 use Rattle.packet.specs.Walk.{beginsWithItem}
+use Rattle.packet.specs.Walk.{beginsWithItem}
 use Rattle.packet.proofs.WalkLaws.{Few, part, begins-room, part-rest, walk-end, walk-cut, walk-broken, walk-wanted, walk-other, walk-few}
 use borrow.Fn.Kinds.{In}
 use borrow.Fn.PlainCycle.{Measures, is, falls, and}

@@ -1,3 +1,5 @@
 pub mod Items
 pub mod Packet
 pub mod Names
+pub mod Answers
+pub mod Walk

@@ -1,0 +1,4 @@
+pub mod ItemLaws
+pub mod NameLaws
+pub mod PacketLaws
+pub mod WalkLaws

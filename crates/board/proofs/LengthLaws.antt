@@ -1,7 +1,6 @@
 -- A row has its 27 name bytes and a board its sixteen rows: owning an array says how long it is.
-use mathlib.Core.Path.{_≡_, refl, sym, ap, _∙_}
-use mathlib.Core.List.{List, map}
-use Prim.Native.Nat.{ℕ}
+use mathlib.Core.Path.{_≡_}
+use mathlib.Core.List.{List}
 use lib.ListN.{length, length-map}
 use denote.Laws.{Is}
 use denote.Struct.Declared as declared

@@ -1,6 +1,6 @@
 -- 01, The board: the rows, ticks and updates.
 use Prim.Native.Nat.{ℕ, zero, suc, _+_, _-_}
-use mathlib.Core.Bool.{Bool, cond}
+use mathlib.Core.Bool.{cond}
 use mathlib.Core.List.{List, [], _∷_, _++_, map}
 use mathlib.Core.Option.{Option, some, none}
 use lib.Dec.{ltb}
@@ -69,6 +69,10 @@ unfoldable pub changeAt : (Row → Row) → ℕ → List Row → List Row
 changeAt f place [] = []
 changeAt f zero (row ∷ rows) = f row ∷ rows
 changeAt f (suc place) (row ∷ rows) = row ∷ changeAt f place rows
+
+-- the board with another row at place
+abbrev pub putRow : ℕ → Row → Board → Board
+putRow place row board = record { rows = changeAt (λ (old : Row). row) place (board .rows) }
 
 -- the board with the row at place updated
 abbrev pub updateBoard : ℕ → ℤ → Board → Board

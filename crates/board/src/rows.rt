@@ -4,7 +4,7 @@ ghost use mathlib.Core.List.{[]};
 ghost use Prim.Native.Nat.{min};
 ghost use Rattle.slices.specs.Same.{sameBytes};
 ghost use Rattle.board.specs.Names.{placeOf};
-ghost use Rattle.board.specs.Rows.{nameRoom, rowName, rowNames, tickState, tickRow, tickBoard, withState, freshRow, boardOf, updateRow, updateBoard, asPlace};
+ghost use Rattle.board.specs.Rows.{nameRoom, rowName, rowNames, tickState, tickRow, tickBoard, withState, freshRow, boardOf, updateRow, updateBoard, putRow, asPlace};
 
 // How many rows the board has.
 pub const ROWS: usize = 16;
@@ -138,6 +138,17 @@ pub fn update(board: Board, place: usize, value: i64) -> Board
         let state = State::Current { value, age: 0 };
         let updated = with_state(row, state);
         next.rows[place] = updated;
+    }
+    next
+}
+
+// The board with another row at `place`. A place that the board does not have changes nothing.
+pub fn put_row(board: Board, place: usize, row: Row) -> Board
+    ensures { λ r. ⌜ r ≡ putRow place row board ⌝ }
+{
+    let mut next = board;
+    if place < ROWS {
+        next.rows[place] = row;
     }
     next
 }

@@ -1,11 +1,10 @@
 -- `board::rows::tick` meets its contract. The invariant: the rows before the present one are ticked, the others are as they
 -- were.
-use mathlib.Core.Path.{_≡_, refl, sym, ap, _∙_}
+use mathlib.Core.Path.{_≡_, refl, ap, _∙_}
 use mathlib.Core.List.{List}
-use Prim.Native.Nat.{ℕ, suc, _+_, _-_, _≤_, _<_}
+use Prim.Native.Nat.{_-_, _≤_}
 use native.Mathlib.Numerals.{add-one}
 use native.Mathlib.Omega.{arith}
-use lib.ListN.{length, set, getD}
 use Rattle.board.specs.declared.rows.Row.{Row}
 use Rattle.board.specs.declared.rows.Board.{Board}
 use Rattle.board.specs.Rows.{rowCount, tickRow}

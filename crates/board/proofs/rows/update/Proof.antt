@@ -1,6 +1,6 @@
 -- `board::rows::update` meets its contract: the one row is stored anew, and where the board has no such row nothing is.
 use borrow.Author.Needs.{needs}
-use mathlib.Core.Path.{_≡_, sym, ap, _∙_}
+use mathlib.Core.Path.{_≡_, sym, ap}
 use mathlib.Core.List.{List}
 use native.Mathlib.Omega.{arith}
 use mir.Syntax.{w64}

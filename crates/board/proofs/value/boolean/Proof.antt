@@ -1,6 +1,6 @@
 -- `board::value::boolean` meets its contract: the tests that lead to each answer are those of `booleanOf`.
 use borrow.Author.Needs.{needs}
-use borrow.Author.Tests.{lt-ltb, le-ltb}
+use borrow.Author.Tests.{le-ltb}
 use native.Mathlib.Omega.{arith}
 use Prim.Native.Nat.{_≤_}
 use lib.ListN.{getD}

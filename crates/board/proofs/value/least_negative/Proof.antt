@@ -1,5 +1,5 @@
 -- `board::value::least_negative` meets its contract: the tests are those of `leastNegative`, in its order.
-use borrow.Author.Tests.{eq-eqb, ne-eqb}
+use borrow.Author.Tests.{ne-eqb}
 use Rattle.board.proofs.value.least_negative.Statement.{statement}
 use Rattle.board.proofs.value.least_negative.Tie as tie
 

@@ -2,14 +2,12 @@
 -- is read in two's complement.
 use borrow.Author.Needs.{needs}
 use mathlib.Core.Path.{_≡_, sym, ap, _∙_}
-use Prim.Native.Nat.{_*_, _<_, _≤_, _^_}
 use native.Mathlib.Omega.{arith}
 use lib.ListN.{length}
 use mir.Syntax.{w64}
 use mir.Val.{toZ, ofZ}
 use mir.Facts.{toZ-ofZ}
 use Rattle.board.specs.declared.value.Value.the-variants.{Number}
-use Rattle.board.specs.Value.{leastNegative, wordOf, twos}
 use Rattle.board.proofs.ValueLaws.{Wide, wide, number-wide, number-bad}
 use Rattle.board.proofs.value.number.Statement.{statement}
 use Rattle.board.proofs.value.number.Tie as tie

@@ -2,7 +2,6 @@
 -- for the bytes.
 use borrow.Author.Needs.{needs}
 use borrow.Author.Tests.{ne-eqb}
-use mathlib.Core.Path.{_≡_, sym, ap, _∙_}
 use Rattle.board.specs.Value.{valueOf}
 use Rattle.board.proofs.value.read_value.Statement.{statement}
 use Rattle.board.proofs.value.read_value.Tie as tie

@@ -1,6 +1,6 @@
 -- `board::value::word` meets its contract. The invariant says what is still to read: the rest of the bytes behind the present
 -- sum gives the word of all, and the sum has no more digits than bytes were read.
-use mathlib.Core.Path.{_≡_, refl, sym, ap, _∙_}
+use mathlib.Core.Path.{_≡_, refl, _∙_}
 use mathlib.Core.List.{[]}
 use Prim.Native.Nat.{_-_, _^_, _≤_, _<_}
 use native.Mathlib.Omega.{arith}

@@ -3,20 +3,21 @@
 use mathlib.Core.Path.{_≡_, refl, sym}
 use mathlib.Core.Bool.{Bool, true, false, cond, _||_}
 use mathlib.Core.List.{List, [], _∷_}
-use mathlib.Core.Option.{some, none}
+use mathlib.Core.Option.{Option, some, none}
 use Prim.Native.Nat.{ℕ, zero, suc, _+_, _-_, _*_, _^_, _≤_, _<_}
 use native.Mathlib.Omega.{arith}
 use native.Mathlib.Numerals.{add-one}
 use native.Mathlib.Nat.{pow-suc, pow-le-pow-right}
 use lib.Dec.{ltb, eqb}
-use lib.IntN.{pos, negsuc, _-ℤ_}
+use lib.IntN.{ℤ, pos, negsuc, _-ℤ_}
 use lib.ListN.{length, drop, getD}
 use lib.Seq.{drop-cons}
 use borrow.Author.Tests.{lt-ltb, le-ltb, eqb-true}
 use mir.Syntax.{w64}
 use mir.Val.{toZ}
 use mir.ValLaws.{toZ-pos, toZ-neg}
-use Rattle.board.specs.Value.{wordFrom, wordOf, twos, leastNegative, numberOf, booleanOf}
+use Rattle.board.specs.declared.value.Value.the-variants.{Number, Bad}
+use Rattle.board.specs.Value.{asValue, wordFrom, wordOf, twos, leastNegative, numberOf, booleanOf}
 
 -- one byte more of the word is read
 pub word-step : (bytes : List ℕ) (sum i : ℕ) → i < length bytes → wordFrom (sum * 256 + getD bytes i 0) (drop (i + 1) bytes) ≡ wordFrom sum (drop i bytes)
@@ -111,3 +112,12 @@ unfolding booleanOf
 boolean-byte [] h = absurd (omega arith)
 boolean-byte (byte ∷ []) h = refl
 boolean-byte (byte ∷ next ∷ bytes) h = absurd (omega arith)
+
+-- what the code's answer says of the value
+pub value-number : (o : Option ℤ) (number : ℤ) → asValue o ≡ Number number → o ≡ some number
+value-number (some found) number e = cc
+value-number none number e = let z : _≡_ {A = ℕ} 0 1 = cc in absurd (omega arith)
+
+pub value-bad : (o : Option ℤ) → asValue o ≡ Bad → o ≡ none
+value-bad (some found) e = let z : _≡_ {A = ℕ} 0 1 = cc in absurd (omega arith)
+value-bad none e = refl

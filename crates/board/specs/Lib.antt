@@ -1,4 +1,5 @@
 pub mod Names
+pub mod Reading
 pub mod Rows
 pub mod Value
 pub mod WatchList

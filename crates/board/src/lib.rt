@@ -1,5 +1,6 @@
 // The board: what the grower sees of each watched hive.
 mod list;
+mod reading;
 mod rows;
 mod value;
 
@@ -7,6 +8,9 @@ pub use list::Listed;
 pub use list::Watched;
 pub use list::watch;
 pub use list::watch_list;
+pub use reading::Answer;
+pub use reading::Reading;
+pub use reading::read;
 pub use rows::Board;
 pub use rows::Place;
 pub use rows::ROWS;

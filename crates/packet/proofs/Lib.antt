@@ -2,3 +2,4 @@ pub mod ItemLaws
 pub mod NameLaws
 pub mod PacketLaws
 pub mod WalkLaws
+pub mod WriteLaws

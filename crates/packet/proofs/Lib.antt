@@ -1,5 +1,6 @@
 pub mod ItemLaws
 pub mod NameLaws
 pub mod PacketLaws
+pub mod ReadBack
 pub mod WalkLaws
 pub mod WriteLaws

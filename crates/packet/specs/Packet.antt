@@ -42,6 +42,9 @@ judgedItems (refused number) = []
 unfoldable pub packetItems : List ℕ → List Item
 packetItems bytes = judgedItems (packetOf bytes)
 
--- a data packet as it is sent
+-- a data packet as it is sent: its first four bytes in front of its items' bytes
+abbrev pub withHead : ℕ → ℕ → List ℕ → List ℕ
+withHead opcode id bytes = 1 ∷ opcode ∷ id / 256 ∷ id % 256 ∷ bytes
+
 unfoldable pub packetBytes : Packet → List ℕ
-packetBytes p = 1 ∷ p .opcode ∷ p .id / 256 ∷ p .id % 256 ∷ itemsBytes (p .items)
+packetBytes p = withHead (p .opcode) (p .id) (itemsBytes (p .items))

@@ -1,7 +1,6 @@
 pub mod FieldLaws
 pub mod LengthLaws
 pub mod NameLaws
-pub mod PlaceLaws
 pub mod ReadingLaws
 pub mod RowLaws
 pub mod ValueLaws

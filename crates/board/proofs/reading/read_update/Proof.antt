@@ -12,6 +12,7 @@ use lib.ListN.{length, take, drop}
 use mir.Syntax.{w64}
 use mir.Val.{toZ, ofZ}
 use mir.Facts.{toZ-ofZ}
+use Rattle.packet.specs.Answers.{itemAt}
 use Rattle.packet.specs.Items.{Item, firstOf, behindOf}
 use Rattle.packet.specs.Packet.{packetItems}
 use Rattle.packet.specs.Names.{validName}
@@ -19,7 +20,7 @@ use Rattle.board.specs.Names.{placeOf}
 use Rattle.board.specs.Rows.{rowNames, asPlace}
 use Rattle.board.specs.Value.{valueOf, asValue}
 use Rattle.board.specs.Reading.{nameKind}
-use Rattle.board.proofs.PlaceLaws.{find-stands, behind-stands, stands-within, stands-item, stands-nothing}
+use Rattle.packet.proofs.FoundLaws.{find-reads as name-reads, behind-found-reads as value-reads}
 use Rattle.board.proofs.ValueLaws.{value-number, value-bad}
 use Rattle.board.proofs.WatchLaws.{place-row, place-nowhere}
 use Rattle.board.proofs.ReadingLaws.{update-no-name, update-bad-name, update-no-value, update-bad-value, update-unwatched, update-row}
@@ -33,16 +34,17 @@ name-at c =
     record { kind = given .0; value = take (given .1 .1 .0) (drop (given .1 .0) (c .before .before .before .before .args .packet .now)) }
 
 named : (c : tie.After-start) → firstOf nameKind (packetItems (c .before .before .before .before .args .packet .now)) ≡ some (name-at c)
+unfolding itemAt
 named c =
     let bytes = c .before .before .before .before .args .packet .now in
     let given = c .start .given in
-    stands-item bytes (given .0 .0) (given .0 .1 .0) (given .0 .1 .1 .0) (find-stands bytes nameKind) (sym (c .before .before .find .ensures) ∙ given .1)
+    sym (name-reads bytes nameKind .same) ∙ ap (itemAt bytes) (sym (c .before .before .find .ensures) ∙ given .1)
 
 name-within : (c : tie.After-start) → c .start .given .0 .1 .0 + c .start .given .0 .1 .1 .0 ≤ length (c .before .before .before .before .args .packet .now)
 name-within c =
     let bytes = c .before .before .before .before .args .packet .now in
     let given = c .start .given in
-    stands-within bytes (given .0 .0) (given .0 .1 .0) (given .0 .1 .1 .0) (find-stands bytes nameKind) (sym (c .before .before .find .ensures) ∙ given .1)
+    name-reads bytes nameKind .within (given .0 .0) (given .0 .1 .0) (given .0 .1 .1 .0) (sym (c .before .before .find .ensures) ∙ given .1)
 
 -- the bytes from a start to its end are as many as were counted
 span : (bytes : List ℕ) (start count : ℕ) → take ((start + count) - start) (drop start bytes) ≡ take count (drop start bytes)
@@ -62,16 +64,17 @@ value-at c =
     record { kind = given .0; value = take (given .1 .1 .0) (drop (given .1 .0) (c .before .before .before .before .before .before .before .before .before .before .before .args .packet .now)) }
 
 valued : (c : tie.After-kind) → behindOf nameKind (packetItems (c .before .before .before .before .before .before .before .before .before .before .before .args .packet .now)) ≡ some (value-at c)
+unfolding itemAt
 valued c =
     let bytes = c .before .before .before .before .before .before .before .before .before .before .before .args .packet .now in
     let given = c .kind .given in
-    stands-item bytes (given .0 .0) (given .0 .1 .0) (given .0 .1 .1 .0) (behind-stands bytes nameKind) (sym (c .before .before .behind .ensures) ∙ given .1)
+    sym (value-reads bytes nameKind .same) ∙ ap (itemAt bytes) (sym (c .before .before .behind .ensures) ∙ given .1)
 
 value-within : (c : tie.After-kind) → c .kind .given .0 .1 .0 + c .kind .given .0 .1 .1 .0 ≤ length (c .before .before .before .before .before .before .before .before .before .before .before .args .packet .now)
 value-within c =
     let bytes = c .before .before .before .before .before .before .before .before .before .before .before .args .packet .now in
     let given = c .kind .given in
-    stands-within bytes (given .0 .0) (given .0 .1 .0) (given .0 .1 .1 .0) (behind-stands bytes nameKind) (sym (c .before .before .behind .ensures) ∙ given .1)
+    value-reads bytes nameKind .within (given .0 .0) (given .0 .1 .0) (given .0 .1 .1 .0) (sym (c .before .before .behind .ensures) ∙ given .1)
 
 -- its value
 judged : (c : tie.After-read-value) → c .read-value .result ≡ asValue (valueOf (value-at (c .before .before .before) .kind) (value-at (c .before .before .before) .value))
@@ -106,10 +109,11 @@ refused-requires : tie.Need-refused-requires
 refused-requires c κs = search needs
 
 returns : tie.Need-returns
+unfolding itemAt
 returns c =
     let found = c .before .before .before in
     let args = found .before .before .args in
-    let nothing = stands-nothing (args .packet .now) (find-stands (args .packet .now) nameKind) (sym (found .find .ensures) ∙ c .before .enum-told .given .1) in
+    let nothing = sym (name-reads (args .packet .now) nameKind .same) ∙ ap (itemAt (args .packet .now)) (sym (found .find .ensures) ∙ c .before .enum-told .given .1) in
     c .refused .ensures ∙ sym (update-no-name (args .board) (packetItems (args .packet .now)) nothing)
 
 add-end : tie.Need-add-end
@@ -151,12 +155,13 @@ refused-requires-3 : tie.Need-refused-requires-3
 refused-requires-3 c κs = search needs
 
 returns-3 : tie.Need-returns-3
+unfolding itemAt
 returns-3 c =
     let behind = c .before .before .before in
     let test = behind .before .before in
     let found = test .before .before .before in
     let args = found .before .before .before .before .args in
-    let nothing = stands-nothing (args .packet .now) (behind-stands (args .packet .now) nameKind) (sym (behind .behind .ensures) ∙ c .before .enum-told2 .given .1) in
+    let nothing = sym (value-reads (args .packet .now) nameKind .same) ∙ ap (itemAt (args .packet .now)) (sym (behind .behind .ensures) ∙ c .before .enum-told2 .given .1) in
     c .refused3 .ensures ∙ sym (update-no-value (args .board) (packetItems (args .packet .now)) (name-at found) (named found) (valid (behind .before)) nothing)
 
 add-last : tie.Need-add-last

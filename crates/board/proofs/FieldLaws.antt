@@ -9,12 +9,12 @@ use lib.Dec.{leb, eqb}
 use lib.ListN.{length, take, drop, getD, length-drop, drop-of-length-le}
 use lib.Seq.{drop-drop}
 use borrow.Author.Tests.{leb-true}
-use Rattle.board.specs.Rows.{boardOf}
+use Rattle.rows.specs.Rows.{boardOf}
 use Rattle.board.specs.WatchList.{mayJoin, sizeOf, isWhole, namesFrom, watchNames, fieldOf, asField, watchBoard, acceptedWith, asWatched}
 use Rattle.board.specs.declared.list.Field.the-variants.{Name, Bad}
 use Rattle.board.specs.declared.list.Listed.the-variants.{Accepted, Refused}
 use Rattle.board.specs.declared.list.Watched.{Watched}
-use Rattle.board.specs.declared.rows.Board.{Board}
+use Rattle.rows.specs.declared.Board.{Board}
 use Rattle.board.proofs.WatchLaws.{both-right, Ours, ours-more, watch-more, accepted-joins, refused-stays}
 
 -- the bytes of a name that has joined are passed over

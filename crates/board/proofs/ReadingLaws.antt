@@ -16,14 +16,14 @@ use Rattle.packet.specs.Packet.{Judged, packet, judgedItems}
 use Rattle.packet.specs.Packet as judged
 use Rattle.packet.specs.Answers as packet-answers
 use Rattle.packet.specs.declared.Reading.the-variants as packet-reading
-use Rattle.board.specs.Names.{placeOf}
-use Rattle.board.specs.Value.{valueOf}
-use Rattle.board.specs.Rows.{rowNames, updateBoard}
+use Rattle.rows.specs.Names.{placeOf}
+use Rattle.value.specs.Value.{valueOf}
+use Rattle.rows.specs.Rows.{rowNames, updateBoard}
 use Rattle.board.specs.Reading.{nameKind, updateOpcode, Task, reject, finish, apply, taskOfItems, taskOf, valueOfItem, withValue, withName, verdictOf, ifWatched, updated, applied, refusedWith, readUpdate, asTask}
-use Rattle.board.specs.declared.rows.Board.{Board}
+use Rattle.rows.specs.declared.Board.{Board}
 use Rattle.board.specs.declared.reading.Task.the-variants.{Reject, Finish, Apply}
 use Rattle.board.specs.declared.reading.Answer.the-variants.{Updated}
-use Rattle.board.proofs.NameLaws.{in-used}
+use Rattle.rows.proofs.NameLaws.{in-used}
 use Rattle.board.proofs.WatchLaws.{valid-fit}
 
 module _ (items : List Item) where

@@ -11,14 +11,14 @@ use lib.ListN.{length, getD, replicate, length-append, length-map}
 use borrow.Author.Tests.{leb-true, ltb-true}
 use Rattle.packet.specs.Names.{between, isLetter, allNameBytes, validName}
 use Rattle.slices.proofs.PutLaws.{put-first}
-use Rattle.board.specs.Names.{placeOf, isIn}
-use Rattle.board.specs.Rows.{rowCount, nameRoom, rowName, rowNames, watched, freshRow, changeAt, putRow, boardOf, asPlace}
+use Rattle.rows.specs.Names.{placeOf, isIn}
+use Rattle.rows.specs.Rows.{rowCount, nameRoom, rowName, rowNames, watched, freshRow, changeAt, putRow, boardOf, asPlace}
 use Rattle.board.specs.WatchList.{mayJoin, watchBoard, joinBoard, acceptedWith, refusedWith}
 use Rattle.board.specs.declared.list.Listed.the-variants.{Accepted, Refused}
-use Rattle.board.specs.declared.rows.Place.the-variants.{Row as At, Nowhere}
-use Rattle.board.specs.declared.rows.Row.{Row}
-use Rattle.board.specs.declared.rows.Board.{Board}
-use Rattle.board.proofs.NameLaws.{NoneEmpty, used-first, place-empty, in-used, room}
+use Rattle.rows.specs.declared.Place.the-variants.{Row as At, Nowhere}
+use Rattle.rows.specs.declared.Row.{Row}
+use Rattle.rows.specs.declared.Board.{Board}
+use Rattle.rows.proofs.NameLaws.{NoneEmpty, used-first, place-empty, in-used, room}
 
 pub both-left : (t u : Bool) → (t && u) ≡ true → t ≡ true
 both-left true u h = refl

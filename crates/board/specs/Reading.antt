@@ -11,10 +11,10 @@ use Rattle.packet.specs.Names.{validName}
 use Rattle.packet.specs.Items.{Item, eofKind, countOf, firstOf, behindOf}
 use Rattle.packet.specs.Packet as judged
 use Rattle.packet.specs.Packet.{Judged, packetOf}
-use Rattle.board.specs.Names.{placeOf, isIn}
-use Rattle.board.specs.Value.{valueOf}
-use Rattle.board.specs.Rows.{rowNames, watched, updateBoard}
-use Rattle.board.specs.declared.rows.Board.{Board}
+use Rattle.rows.specs.Names.{placeOf, isIn}
+use Rattle.value.specs.Value.{valueOf}
+use Rattle.rows.specs.Rows.{rowNames, watched, updateBoard}
+use Rattle.rows.specs.declared.Board.{Board}
 use Rattle.board.specs.declared.reading.Answer.the-variants as answer
 use Rattle.board.specs.declared.reading.Reading.{Reading}
 use Rattle.board.specs.declared.reading.Task as machine

@@ -8,9 +8,9 @@ use lib.Dec.{eqb, leb, ltb}
 use lib.ListN.{length, take}
 use Rattle.refusals.specs.Numbers.{badList}
 use Rattle.packet.specs.Names.{validName}
-use Rattle.board.specs.Names.{placeOf, isIn}
-use Rattle.board.specs.Rows.{rowCount, rowNames, watched, freshRow, putRow, boardOf}
-use Rattle.board.specs.declared.rows.Board.{Board}
+use Rattle.rows.specs.Names.{placeOf, isIn}
+use Rattle.rows.specs.Rows.{rowCount, rowNames, watched, freshRow, putRow, boardOf}
+use Rattle.rows.specs.declared.Board.{Board}
 use Rattle.board.specs.declared.list.Field.{Field}
 use Rattle.board.specs.declared.list.Field.the-variants.{Name, Bad}
 use Rattle.board.specs.declared.list.Listed.the-variants.{Accepted, Refused}

@@ -1,12 +1,12 @@
 // The watch list: which names the board shows.
 ghost use mathlib.Core.Path.{_≡_};
 ghost use Rattle.board.specs.WatchList.{watchBoard, watchNames, asWatched, refusedWith, fieldOf, asField};
-use crate::rows::Board;
-use crate::rows::Place;
-use crate::rows::find;
-use crate::rows::fresh;
-use crate::rows::fresh_row;
-use crate::rows::put_row;
+use rows::Board;
+use rows::Place;
+use rows::find;
+use rows::fresh;
+use rows::fresh_row;
+use rows::put_row;
 
 // The tag of a name in a watch list.
 pub const NAME_TAG: u8 = 0x01;

@@ -2,16 +2,16 @@
 ghost use mathlib.Core.Path.{_≡_};
 ghost use Rattle.packet.specs.Packet.{packetOf, packetItems};
 ghost use Rattle.board.specs.Reading.{taskOf, taskOfItems, asTask, readUpdate, readBoard, refusedWith};
-use crate::rows::Board;
-use crate::rows::Place;
-use crate::rows::find;
-use crate::rows::update;
-use crate::value::Value;
-use crate::value::read_value;
 use packet::EOF_KIND;
 use packet::Found;
 use packet::NAME_KIND;
 use packet::valid_name;
+use rows::Board;
+use rows::Place;
+use rows::find;
+use rows::update;
+use value::Value;
+use value::read_value;
 
 // The opcode that the board reads.
 pub const UPDATE: u8 = 0x03;

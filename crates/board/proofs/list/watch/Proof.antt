@@ -6,9 +6,9 @@ use mathlib.Core.Bool.{true}
 use mathlib.Core.List.{[]}
 use lib.ListN.{length}
 use Rattle.packet.specs.Names.{validName}
-use Rattle.board.specs.Names.{placeOf}
-use Rattle.board.specs.Rows.{rowCount, rowNames}
-use Rattle.board.proofs.LengthLaws.{board-rows}
+use Rattle.rows.specs.Names.{placeOf}
+use Rattle.rows.specs.Rows.{rowCount, rowNames}
+use Rattle.rows.proofs.LengthLaws.{board-rows}
 use Rattle.board.proofs.WatchLaws.{watch-bad, watch-again, watch-full, watch-first, place-row, place-nowhere}
 use Rattle.board.proofs.list.watch.Statement.{statement}
 use Rattle.board.proofs.list.watch.Tie as tie

@@ -16,12 +16,12 @@ use Rattle.packet.specs.Answers.{itemAt}
 use Rattle.packet.specs.Items.{Item, firstOf, behindOf}
 use Rattle.packet.specs.Packet.{packetItems}
 use Rattle.packet.specs.Names.{validName}
-use Rattle.board.specs.Names.{placeOf}
-use Rattle.board.specs.Rows.{rowNames, asPlace}
-use Rattle.board.specs.Value.{valueOf, asValue}
+use Rattle.rows.specs.Names.{placeOf}
+use Rattle.rows.specs.Rows.{rowNames, asPlace}
+use Rattle.value.specs.Value.{valueOf, asValue}
 use Rattle.board.specs.Reading.{nameKind}
 use Rattle.packet.proofs.FoundLaws.{find-reads as name-reads, behind-found-reads as value-reads}
-use Rattle.board.proofs.ValueLaws.{value-number, value-bad}
+use Rattle.value.proofs.ValueLaws.{value-number, value-bad}
 use Rattle.board.proofs.WatchLaws.{place-row, place-nowhere}
 use Rattle.board.proofs.ReadingLaws.{update-no-name, update-bad-name, update-no-value, update-bad-value, update-unwatched, update-row}
 use Rattle.board.proofs.reading.read_update.Statement.{statement}

@@ -28,6 +28,16 @@ pub in-used : (name : List ℕ) (names : List (List ℕ)) → 0 < length name �
 in-used [] names h = absurd (omega arith)
 in-used (byte ∷ bytes) names h = used-from byte bytes names 0 0
 
+-- and the empty name is none of them
+unused-from : (names : List (List ℕ)) (a : ℕ) → isSome (placeFrom a [] (used names)) ≡ false
+unfolding placeFrom used sameBytes
+unused-from [] a = refl
+unused-from ([] ∷ names) a = unused-from names a
+unused-from ((byte ∷ bytes) ∷ names) a = unused-from names (suc a)
+
+pub empty-unused : (names : List (List ℕ)) → isIn [] (used names) ≡ false
+empty-unused names = unused-from names 0
+
 pub used-few : (names : List (List ℕ)) → length (used names) ≤ length names
 unfolding used
 used-few [] = omega arith

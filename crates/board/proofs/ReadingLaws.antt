@@ -1,0 +1,125 @@
+-- The laws of the board's reading, one for each way through the code: what the tests on the way say of the packet settles the
+-- verdict.
+use mathlib.Core.Path.{_≡_, refl, sym, ap, _∙_}
+use mathlib.Core.Bool.{Bool, true, false, cond, _&&_}
+use mathlib.Core.List.{List}
+use mathlib.Core.Option.{some, none}
+use Prim.Native.Nat.{ℕ, _≤_, _<_}
+use native.Mathlib.Omega.{arith}
+use lib.Dec.{eqb, ltb}
+use lib.IntN.{ℤ}
+use borrow.Author.Tests.{eq-eqb, ne-eqb, lt-ltb, le-ltb}
+use Rattle.refusals.specs.Numbers.{otherOpcode, badName, badValue, notWatched}
+use Rattle.packet.specs.Names.{validName}
+use Rattle.packet.specs.Items.{Item, eofKind, countOf, firstOf, behindOf}
+use Rattle.packet.specs.Packet.{Judged, packet, judgedItems}
+use Rattle.packet.specs.Packet as judged
+use Rattle.packet.specs.Answers as packet-answers
+use Rattle.packet.specs.declared.Reading.the-variants as packet-reading
+use Rattle.rows.specs.Names.{placeOf}
+use Rattle.value.specs.Value.{valueOf}
+use Rattle.rows.specs.Rows.{rowNames, updateBoard}
+use Rattle.board.specs.Reading.{nameKind, updateOpcode, Task, reject, finish, apply, taskOfItems, taskOf, valueOfItem, withValue, withName, verdictOf, ifWatched, updated, applied, refusedWith, readUpdate, asTask}
+use Rattle.rows.specs.declared.Board.{Board}
+use Rattle.board.specs.declared.reading.Task.the-variants.{Reject, Finish, Apply}
+use Rattle.board.specs.declared.reading.Answer.the-variants.{Updated}
+use Rattle.rows.proofs.NameLaws.{in-used}
+use Rattle.board.proofs.WatchLaws.{valid-fit}
+
+module _ (items : List Item) where
+  pub task-one : countOf nameKind items ≡ 1 → taskOfItems items ≡ apply items
+  unfolding taskOfItems
+  task-one one = rw one
+
+  pub task-end : countOf nameKind items ≡ 0 → 0 < countOf eofKind items → taskOfItems items ≡ finish
+  unfolding taskOfItems
+  task-end nameless ended = rw (nameless, lt-ltb 0 (countOf eofKind items) ended)
+
+  pub task-none : countOf nameKind items ≡ 0 → countOf eofKind items ≤ 0 → taskOfItems items ≡ reject badName
+  unfolding taskOfItems
+  task-none nameless endless = rw (nameless, le-ltb 0 (countOf eofKind items) endless)
+
+  pub task-many : (countOf nameKind items ≡ 1 → ⊥) → (countOf nameKind items ≡ 0 → ⊥) → taskOfItems items ≡ reject badName
+  unfolding taskOfItems
+  task-many not-one not-none = rw (ne-eqb (countOf nameKind items) 0 not-none, ne-eqb (countOf nameKind items) 1 not-one)
+
+-- what the packet reader answered
+pub task-refused : (j : Judged) (number : ℕ) → packet-answers.readingOf j ≡ packet-reading.Refused number → taskOf j ≡ reject number
+unfolding packet-answers.readingOf taskOf
+task-refused (judged.packet p) number e = let z : _≡_ {A = ℕ} 0 1 = cc in absurd (omega arith)
+task-refused (judged.refused found) number e = cc
+
+pub task-update : (j : Judged) (opcode id : ℕ) → packet-answers.readingOf j ≡ packet-reading.Packet opcode id → opcode ≡ updateOpcode → taskOf j ≡ taskOfItems (judgedItems j)
+unfolding packet-answers.readingOf taskOf judgedItems
+task-update (judged.packet p) opcode id e is =
+    let o : p .opcode ≡ opcode = cc in
+    rw (eq-eqb (p .opcode) updateOpcode (o ∙ is))
+task-update (judged.refused found) opcode id e is = let z : _≡_ {A = ℕ} 0 1 = cc in absurd (omega arith)
+
+pub task-other : (j : Judged) (opcode id : ℕ) → packet-answers.readingOf j ≡ packet-reading.Packet opcode id → (opcode ≡ updateOpcode → ⊥) → taskOf j ≡ reject otherOpcode
+unfolding packet-answers.readingOf taskOf
+task-other (judged.packet p) opcode id e isn't =
+    let o : p .opcode ≡ opcode = cc in
+    rw (ne-eqb (p .opcode) updateOpcode (λ same. isn't (sym o ∙ same)))
+task-other (judged.refused found) opcode id e isn't = let z : _≡_ {A = ℕ} 0 1 = cc in absurd (omega arith)
+
+-- what the task was that the code answered
+pub was-reject : (t : Task) (number : ℕ) → asTask t ≡ Reject number → t ≡ reject number
+unfolding asTask
+was-reject (reject found) number e = cc
+was-reject finish number e = let z : _≡_ {A = ℕ} 0 1 = cc in absurd (omega arith)
+was-reject (apply items) number e = let z : _≡_ {A = ℕ} 0 1 = cc in absurd (omega arith)
+
+pub was-finish : (t : Task) → asTask t ≡ Finish → t ≡ finish
+unfolding asTask
+was-finish (reject found) e = let z : _≡_ {A = ℕ} 0 1 = cc in absurd (omega arith)
+was-finish finish e = refl
+was-finish (apply items) e = let z : _≡_ {A = ℕ} 0 1 = cc in absurd (omega arith)
+
+-- an update is one by the packet's own items
+by-items : (t u : Bool) (items : List Item) → asTask (cond t finish (cond u (apply items) (reject badName))) ≡ Apply → cond t finish (cond u (apply items) (reject badName)) ≡ apply items
+unfolding asTask
+by-items true u items e = let z : _≡_ {A = ℕ} 0 1 = cc in absurd (omega arith)
+by-items false true items e = refl
+by-items false false items e = let z : _≡_ {A = ℕ} 0 1 = cc in absurd (omega arith)
+
+by-opcode : (t : Bool) (items : List Item) → asTask (cond t (taskOfItems items) (reject otherOpcode)) ≡ Apply → cond t (taskOfItems items) (reject otherOpcode) ≡ apply items
+unfolding asTask taskOfItems
+by-opcode true items e = by-items (eqb (countOf nameKind items) 0 && ltb 0 (countOf eofKind items)) (eqb (countOf nameKind items) 1) items e
+by-opcode false items e = let z : _≡_ {A = ℕ} 0 1 = cc in absurd (omega arith)
+
+pub was-apply : (j : Judged) → asTask (taskOf j) ≡ Apply → taskOf j ≡ apply (judgedItems j)
+unfolding taskOf judgedItems asTask
+was-apply (judged.packet p) e = by-opcode (eqb (p .opcode) updateOpcode) (p .items) e
+was-apply (judged.refused number) e = let z : _≡_ {A = ℕ} 0 1 = cc in absurd (omega arith)
+
+module _ (board : Board) (items : List Item) where
+  pub update-no-name : firstOf nameKind items ≡ none → readUpdate board items ≡ refusedWith board badName
+  unfolding readUpdate verdictOf withName ifWatched applied
+  update-no-name e = rw e
+
+  module _ (name : Item) (named : firstOf nameKind items ≡ some name) where
+    pub update-bad-name : validName (name .value) ≡ false → readUpdate board items ≡ refusedWith board badName
+    unfolding readUpdate verdictOf withName ifWatched applied
+    update-bad-name bad = rw (named, bad)
+
+    module _ (valid : validName (name .value) ≡ true) where
+      pub update-no-value : behindOf nameKind items ≡ none → readUpdate board items ≡ refusedWith board badValue
+      unfolding readUpdate verdictOf withName valueOfItem withValue ifWatched applied
+      update-no-value e = rw (named, valid, e)
+
+      module _ (item : Item) (valued : behindOf nameKind items ≡ some item) where
+        pub update-bad-value : valueOf (item .kind) (item .value) ≡ none → readUpdate board items ≡ refusedWith board badValue
+        unfolding readUpdate verdictOf withName valueOfItem withValue ifWatched applied
+        update-bad-value bad = rw (named, valid, valued, bad)
+
+        module _ (value : ℤ) (good : valueOf (item .kind) (item .value) ≡ some value) where
+          pub update-unwatched : placeOf (name .value) (rowNames board) ≡ none → readUpdate board items ≡ refusedWith board notWatched
+          unfolding readUpdate verdictOf withName valueOfItem withValue ifWatched applied
+          update-unwatched nowhere =
+              rw (named, valid, valued, good, in-used (name .value) (rowNames board) (valid-fit (name .value) valid .some), nowhere)
+
+          pub update-row : (place : ℕ) → placeOf (name .value) (rowNames board) ≡ some place → readUpdate board items ≡ record { board = updateBoard place value board; answer = Updated place }
+          unfolding readUpdate verdictOf withName valueOfItem withValue ifWatched applied updated
+          update-row place there =
+              rw (named, valid, valued, good, in-used (name .value) (rowNames board) (valid-fit (name .value) valid .some), there) (ap (updated board value) there)

@@ -1,0 +1,182 @@
+-- The laws of watched names: a board of names watches these names in their order, and one name more stands in its first
+-- unused row.
+use mathlib.Core.Path.{_≡_, refl, ap, ap₂, _∙_}
+use mathlib.Core.Bool.{Bool, true, false, not, _&&_}
+use mathlib.Core.List.{List, [], _∷_, _++_, map}
+use mathlib.Core.Option.{Option, some, none}
+use Prim.Native.Nat.{ℕ, zero, suc, _+_, _-_, _≤_, _<_}
+use native.Mathlib.Omega.{arith}
+use lib.Dec.{leb, ltb}
+use lib.ListN.{length, getD, replicate, length-append, length-map}
+use borrow.Author.Tests.{leb-true, ltb-true}
+use Rattle.packet.specs.Names.{between, isLetter, allNameBytes, validName}
+use Rattle.slices.proofs.PutLaws.{put-first}
+use Rattle.rows.specs.Names.{placeOf, isIn}
+use Rattle.rows.specs.Rows.{rowCount, nameRoom, rowName, rowNames, watched, freshRow, changeAt, putRow, boardOf, asPlace}
+use Rattle.board.specs.WatchList.{mayJoin, watchBoard, joinBoard, acceptedWith, refusedWith}
+use Rattle.board.specs.declared.list.Listed.the-variants.{Accepted, Refused}
+use Rattle.rows.specs.declared.Place.the-variants.{Row as At, Nowhere}
+use Rattle.rows.specs.declared.Row.{Row}
+use Rattle.rows.specs.declared.Board.{Board}
+use Rattle.rows.proofs.NameLaws.{NoneEmpty, used-first, place-empty, in-used, room}
+
+pub both-left : (t u : Bool) → (t && u) ≡ true → t ≡ true
+both-left true u h = refl
+both-left false u h = let z : _≡_ {A = ℕ} 0 1 = cc in absurd (omega arith)
+
+pub both-right : (t u : Bool) → (t && u) ≡ true → u ≡ true
+both-right true u h = h
+both-right false u h = let z : _≡_ {A = ℕ} 0 1 = cc in absurd (omega arith)
+
+never : (t : Bool) → (t && false) ≡ false
+never true = refl
+never false = refl
+
+-- a name that a row has room for
+pub record Fit (name : List ℕ) : Type 0 where
+  pub some : 0 < length name
+  pub few : length name ≤ nameRoom
+
+-- a valid name is such a name
+pub valid-fit : (name : List ℕ) → validName name ≡ true → Fit name
+unfolding validName between
+valid-fit name h =
+    let start = both-left (between 1 27 (length name) && isLetter (getD name 0 0)) (allNameBytes name) h in
+    let size = both-left (between 1 27 (length name)) (isLetter (getD name 0 0)) start in
+    record {
+      some = leb-true 1 (length name) (both-left (leb 1 (length name)) (leb (length name) 27) size);
+      few = leb-true (length name) 27 (both-right (leb 1 (length name)) (leb (length name) 27) size);
+    }
+
+-- names that a board can have: each of them fits, and there are no more than rows
+abbrev pub Fits : List (List ℕ) → Type 0
+Fits [] = Unit {0}
+Fits (name ∷ names) = Fit name × Fits names
+
+none-empty : (names : List (List ℕ)) → Fits names → NoneEmpty names
+none-empty [] h = tt
+none-empty (name ∷ names) h = (h .0 .some, none-empty names (h .1))
+
+fits-more : (names : List (List ℕ)) (name : List ℕ) → Fits names → Fit name → Fits (names ++ (name ∷ []))
+fits-more [] name h f = (f, tt)
+fits-more (first ∷ names) name h f = (h .0, fits-more names name (h .1) f)
+
+-- a fresh row has the name that it was given
+pub fresh-name : (name : List ℕ) → Fit name → rowName (freshRow name) ≡ name
+fresh-name name f = put-first (replicate nameRoom 0) name (f .few)
+
+fresh-names : (names : List (List ℕ)) (k : ℕ) → Fits names → map rowName (map freshRow (names ++ replicate k [])) ≡ names ++ replicate k []
+fresh-names [] zero h = refl
+fresh-names [] (suc k) h = ap (λ r. [] ∷ r) (fresh-names [] k h)
+fresh-names (name ∷ names) k h = ap₂ (λ p q. p ∷ q) (fresh-name name (h .0)) (fresh-names names k (h .1))
+
+-- the board of names that fit watches these names
+pub watched-names : (names : List (List ℕ)) → Fits names → watched (boardOf names) ≡ names
+watched-names names h =
+    rw (fresh-names names (rowCount - length names) h) (used-first names (rowCount - length names) (none-empty names h))
+
+change-unused : (names : List (List ℕ)) (name : List ℕ) (k : ℕ) → changeAt (λ (old : Row). freshRow name) (length names) (map freshRow (names ++ replicate (suc k) [])) ≡ map freshRow (names ++ (name ∷ []) ++ replicate k [])
+unfolding changeAt
+change-unused [] name k = refl
+change-unused (first ∷ names) name k = ap (λ r. freshRow first ∷ r) (change-unused names name k)
+
+-- names that a board of ours watches
+pub record Ours (names : List (List ℕ)) : Type 0 where
+  pub fit : Fits names
+  pub few : length names ≤ rowCount
+
+pub ours-none : Ours []
+ours-none = record { fit = tt; few = omega arith }
+
+join-few : (names : List (List ℕ)) (name : List ℕ) → mayJoin names name ≡ true → length names < rowCount
+unfolding mayJoin
+join-few names name h =
+    let test = not (isIn name names) && ltb (length names) rowCount in
+    ltb-true (length names) rowCount (both-right (not (isIn name names)) (ltb (length names) rowCount) (both-right (validName name) test h))
+
+join-fit : (names : List (List ℕ)) (name : List ℕ) → mayJoin names name ≡ true → Fit name
+unfolding mayJoin
+join-fit names name h = valid-fit name (both-left (validName name) (not (isIn name names) && ltb (length names) rowCount) h)
+
+-- with a name that may join they are again
+pub ours-more : (names : List (List ℕ)) (name : List ℕ) → Ours names → mayJoin names name ≡ true → Ours (names ++ (name ∷ []))
+ours-more names name o h =
+    let few = join-few names name h in
+    record { fit = fits-more names name (o .fit) (join-fit names name h); few = simp length-append (omega arith) }
+
+join-row : (names : List (List ℕ)) (name : List ℕ) (k : ℕ) → Fits names → joinBoard (record { rows = map freshRow (names ++ replicate (suc k) []) }) name (placeOf [] (map rowName (map freshRow (names ++ replicate (suc k) [])))) ≡ record { rows = map freshRow (names ++ (name ∷ []) ++ replicate k []) }
+join-row names name k h =
+    let first : 0 + length names ≡ length names = omega arith in
+    rw (fresh-names names (suc k) h, place-empty names k 0 (none-empty names h), first)
+    (ap (λ (rows : List Row). record { rows = rows }) (change-unused names name k))
+
+-- one name more on a board of ours: the board of the names with it, in their order
+pub watch-more : (names : List (List ℕ)) (name : List ℕ) → Ours names → mayJoin names name ≡ true → watchBoard (boardOf names) name ≡ acceptedWith (boardOf (names ++ (name ∷ [])))
+unfolding watchBoard
+watch-more names name o h =
+    let few = join-few names name h in
+    let now : rowCount - length names ≡ suc (rowCount - suc (length names)) = omega arith in
+    let then : rowCount - length (names ++ (name ∷ [])) ≡ rowCount - suc (length names) = simp length-append (omega arith) in
+    rw (watched-names names (o .fit), h, now, then) (ap acceptedWith (join-row names name (rowCount - suc (length names)) (o .fit)))
+
+-- or the refusal, with the board as it was
+pub watch-refused : (names : List (List ℕ)) (name : List ℕ) → Ours names → mayJoin names name ≡ false → watchBoard (boardOf names) name ≡ refusedWith (boardOf names)
+unfolding watchBoard
+watch-refused names name o h = rw (watched-names names (o .fit), h)
+
+-- so the answer tells which it was
+pub accepted-joins : (names : List (List ℕ)) (name : List ℕ) → Ours names → watchBoard (boardOf names) name .answer ≡ Accepted → mayJoin names name ≡ true
+accepted-joins names name o e = cases (mayJoin names name) refl
+  where
+    cases : (t : Bool) → mayJoin names name ≡ t → t ≡ true
+    cases true h = refl
+    cases false h =
+        let r = watch-refused names name o h in
+        let z : _≡_ {A = ℕ} 0 1 = cc in
+        absurd (omega arith)
+
+pub refused-stays : (names : List (List ℕ)) (name : List ℕ) (number : ℕ) → Ours names → watchBoard (boardOf names) name .answer ≡ Refused number → mayJoin names name ≡ false
+refused-stays names name number o e = cases (mayJoin names name) refl
+  where
+    cases : (t : Bool) → mayJoin names name ≡ t → t ≡ false
+    cases false h = refl
+    cases true h =
+        let r = watch-more names name o h in
+        let z : _≡_ {A = ℕ} 0 1 = cc in
+        absurd (omega arith)
+
+-- a name on any board, in the order of the code
+module _ (board : Board) (name : List ℕ) where
+  -- a bad name
+  pub watch-bad : validName name ≡ false → watchBoard board name ≡ refusedWith board
+  unfolding watchBoard mayJoin
+  watch-bad bad = rw bad
+
+  module _ (valid : validName name ≡ true) where
+    -- a name that a row has
+    pub watch-again : {place : ℕ} → placeOf name (rowNames board) ≡ some place → watchBoard board name ≡ refusedWith board
+    unfolding watchBoard mayJoin
+    watch-again e = rw (valid, in-used name (rowNames board) (valid-fit name valid .some), e)
+
+    module _ (rows : length (board .rows) ≡ rowCount) where
+      has-room : ltb (length (watched board)) rowCount ≡ isIn [] (rowNames board)
+      has-room = let all : length (rowNames board) ≡ rowCount = length-map (board .rows) rowName ∙ rows in rw (← all) (room (rowNames board))
+
+      -- no row is unused
+      pub watch-full : placeOf [] (rowNames board) ≡ none → watchBoard board name ≡ refusedWith board
+      unfolding watchBoard mayJoin
+      watch-full e = rw (valid, has-room, e, never (not (isIn name (watched board))))
+
+      -- the first unused row takes it
+      pub watch-first : {place : ℕ} → placeOf name (rowNames board) ≡ none → placeOf [] (rowNames board) ≡ some place → watchBoard board name ≡ acceptedWith (putRow place (freshRow name) board)
+      unfolding watchBoard mayJoin
+      watch-first new e = rw (valid, in-used name (rowNames board) (valid-fit name valid .some), new, has-room, e)
+
+-- what the search for a name answered
+pub place-row : (o : Option ℕ) (place : ℕ) → asPlace o ≡ At place → o ≡ some place
+place-row (some found) place e = cc
+place-row none place e = let z : _≡_ {A = ℕ} 0 1 = cc in absurd (omega arith)
+
+pub place-nowhere : (o : Option ℕ) → asPlace o ≡ Nowhere → o ≡ none
+place-nowhere (some found) e = let z : _≡_ {A = ℕ} 0 1 = cc in absurd (omega arith)
+place-nowhere none e = refl

@@ -1,0 +1,183 @@
+-- `board::list::watch_list` meets its contract. The invariant says what is still to read: the board is that of the names read
+-- so far, and with the rest of the list behind them they give what the whole list gives.
+use mathlib.Core.Path.{_≡_, refl, sym, ap, _∙_}
+use mathlib.Core.List.{[]}
+use mathlib.Core.Option.{some}
+use Prim.Native.Nat.{_+_, _-_, _≤_}
+use native.Mathlib.Omega.{arith}
+use borrow.Author.Needs.{needs}
+use lib.ListN.{length, length-take, take, drop, length-drop}
+use Rattle.board.specs.declared.list.Watched.{Watched}
+use Rattle.board.specs.WatchList.{fieldOf, watchBoard}
+use Rattle.board.proofs.WatchLaws.{ours-none}
+use Rattle.board.proofs.FieldLaws.{Reached, nameAt, field-name, field-none, field-size, reached-bad, reached-refused, reached-next, reached-end}
+use Rattle.packet.proofs.WalkLaws.{part-rest}
+use Rattle.board.proofs.list.watch_list.Statement.{statement}
+use Rattle.board.proofs.list.watch_list.Tie as tie
+
+abbrev Inv-loop : tie.InvT-loop
+Inv-loop fields board₀ at₀ board at = Reached fields board at
+
+abbrev μ-loop : tie.MeasureT-loop
+μ-loop fields board₀ at₀ board at = length fields - at
+
+-- the rest, from the present place on
+rest-is : (c : tie.After-rest Inv-loop μ-loop) → take (length (c .before .before .before .before .before .args .fields .now) - c .before .before .loop .at) (drop (c .before .before .loop .at) (c .before .before .before .before .before .args .fields .now)) ≡ drop (c .before .before .loop .at) (c .before .before .before .before .before .args .fields .now)
+rest-is c = part-rest (c .before .before .before .before .before .args .fields .now) (c .before .before .loop .at)
+
+-- the field that was read
+field : (c : tie.After-size Inv-loop μ-loop) → fieldOf (drop (c .before .before .before .before .before .loop .at) (c .before .before .before .before .before .before .before .before .args .fields .now)) ≡ some (c .size .given .0 .0)
+field c =
+    let read = c .before .before in
+    let found = field-name (fieldOf (take (length (read .before .before .before .before .before .before .args .fields .now) - read .before .before .before .loop .at) (drop (read .before .before .before .loop .at) (read .before .before .before .before .before .before .args .fields .now)))) (c .size .given .0 .0) (sym (read .read-field .ensures) ∙ c .size .given .1) in
+    rw (rest-is (read .before)) at found
+
+-- it lies within the list
+room : (c : tie.After-size Inv-loop μ-loop) → c .before .before .before .before .before .loop .at + (c .size .given .0 .0 + 3) ≤ length (c .before .before .before .before .before .before .before .before .args .fields .now)
+room c =
+    let turn = c .before .before .before .before in
+    let fields = turn .before .before .before .before .args .fields .now in
+    let h : c .size .given .0 .0 + 3 ≤ length (drop (turn .before .loop .at) fields) = field-size (drop (turn .before .loop .at) fields) (c .size .given .0 .0) (field c) in
+    omega (arith, length-drop (turn .before .loop .at) fields)
+
+-- the name in it was asked to be watched
+watched : (c : tie.After-watch Inv-loop μ-loop) → c .watch .result ≡ watchBoard (c .before .before .before .before .before .before .before .before .loop .board) (nameAt (c .before .before .before .before .before .before .before .before .before .before .before .args .fields .now) (c .before .before .before .before .before .before .before .before .loop .at) (c .before .before .before .size .given .0 .0))
+watched c =
+    let size = c .before .before .before in
+    let turn = size .before .before .before .before in
+    let fields = turn .before .before .before .before .args .fields .now in
+    let loop = turn .before .loop in
+    let sized : (size .size .given .0 .0 + 3) - 3 ≡ size .size .given .0 .0 = omega arith in
+    c .watch .ensures ∙ rw (sized, part-rest fields (loop .at))
+
+fresh-requires : tie.Need-fresh-requires Inv-loop μ-loop
+fresh-requires c κs = tt
+
+loop-holds : tie.Need-loop-holds Inv-loop μ-loop
+loop-holds c = record { within = omega arith; names = []; ours = ours-none; is = c .fresh .ensures; still = refl }
+
+sub-rest : tie.Need-sub-rest Inv-loop μ-loop
+sub-rest c = search needs
+
+part-rest-start : tie.Need-part-rest-start Inv-loop μ-loop
+part-rest-start c = search needs
+
+part-rest-end : tie.Need-part-rest-end Inv-loop μ-loop
+part-rest-end c = search needs
+
+read-field-requires : tie.Need-read-field-requires Inv-loop μ-loop
+read-field-requires c κs = tt
+
+enum-known-size : tie.Need-enum-known-size Inv-loop μ-loop
+enum-known-size c = search needs
+
+enum-told : tie.Need-enum-told Inv-loop μ-loop
+enum-told c = search needs
+
+fresh-requires-2 : tie.Need-fresh-requires-2 Inv-loop μ-loop
+fresh-requires-2 c κs = tt
+
+refused-requires : tie.Need-refused-requires Inv-loop μ-loop
+refused-requires c κs = tt
+
+returns : tie.Need-returns Inv-loop μ-loop
+returns c =
+    let read = c .before .before .before .before in
+    let turn = read .before .before in
+    let fields = turn .before .before .before .before .args .fields .now in
+    let loop = turn .before .loop in
+    let bad = field-none (fieldOf (take (length fields - loop .at) (drop (loop .at) fields))) (sym (read .read-field .ensures) ∙ c .before .before .enum-told .given .1) in
+    let refused = reached-bad fields (loop .board) (loop .at) (loop .inv) (turn .loop-test .taken) (rw (rest-is (read .before)) at bad) in
+    rw (c .refused .ensures, c .before .fresh2 .ensures, refused)
+
+add-end : tie.Need-add-end Inv-loop μ-loop
+add-end c = let h = room (c .before) in omega arith
+
+sub-watch : tie.Need-sub-watch Inv-loop μ-loop
+sub-watch c = search needs
+
+part-watch-start : tie.Need-part-watch-start Inv-loop μ-loop
+part-watch-start c = search needs
+
+part-watch-end : tie.Need-part-watch-end Inv-loop μ-loop
+part-watch-end c = let h = room (c .before) in simp (length-take, length-drop) (omega arith)
+
+watch-requires : tie.Need-watch-requires Inv-loop μ-loop
+watch-requires c κs = tt
+
+enum-told-2 : tie.Need-enum-told-2 Inv-loop μ-loop
+enum-told-2 c = search needs
+
+fresh-requires-3 : tie.Need-fresh-requires-3 Inv-loop μ-loop
+fresh-requires-3 c κs = tt
+
+refused-requires-2 : tie.Need-refused-requires-2 Inv-loop μ-loop
+refused-requires-2 c κs = tt
+
+returns-2 : tie.Need-returns-2 Inv-loop μ-loop
+returns-2 c =
+    let called = c .before .before .before .before in
+    let size = called .before .before .before in
+    let turn = size .before .before .before .before in
+    let fields = turn .before .before .before .before .args .fields .now in
+    let loop = turn .before .loop in
+    let told = ap (λ (w : Watched). w .answer) (sym (watched called)) ∙ c .before .before .enum-told2 .given .1 in
+    let refused = reached-refused fields (loop .board) (loop .at) (loop .inv) (size .size .given .0 .0) _ (field size) told in
+    rw (c .refused2 .ensures, c .before .fresh3 .ensures, refused)
+
+enum-told-3 : tie.Need-enum-told-3 Inv-loop μ-loop
+enum-told-3 c = search needs
+
+add-at : tie.Need-add-at Inv-loop μ-loop
+add-at c = let h = room (c .before .before .before .before .before .before) in omega arith
+
+loop-less : tie.Need-loop-less Inv-loop μ-loop
+loop-less c = let h = room (c .before .before .before .before .before .before) in omega arith
+
+loop-again : tie.Need-loop-again Inv-loop μ-loop
+loop-again c =
+    let called = c .before .before .before in
+    let size = called .before .before .before in
+    let turn = size .before .before .before .before in
+    let fields = turn .before .before .before .before .args .fields .now in
+    let loop = turn .before .loop in
+    let told = ap (λ (w : Watched). w .answer) (sym (watched called)) ∙ c .before .enum-told3 .given .1 in
+    rw (watched called) (reached-next fields (loop .board) (loop .at) (loop .inv) (size .size .given .0 .0) (field size) told)
+
+returns-3 : tie.Need-returns-3 Inv-loop μ-loop
+returns-3 c =
+    let loop = c .before .loop in
+    let fields = c .before .before .before .before .args .fields .now in
+    reached-end fields (loop .board) (loop .at) (loop .inv) (c .loop-test .left)
+
+pub watch-list-spec : {M : Type 1} → statement M
+watch-list-spec =
+    tie.close
+    (tie.spec
+    Inv-loop
+    μ-loop
+    fresh-requires
+    loop-holds
+    sub-rest
+    part-rest-start
+    part-rest-end
+    read-field-requires
+    enum-known-size
+    enum-told
+    fresh-requires-2
+    refused-requires
+    returns
+    add-end
+    sub-watch
+    part-watch-start
+    part-watch-end
+    watch-requires
+    enum-told-2
+    fresh-requires-3
+    refused-requires-2
+    returns-2
+    enum-told-3
+    add-at
+    loop-less
+    loop-again
+    returns-3)

@@ -1,0 +1,80 @@
+-- 01, The board: "The watch list is stored as tagged fields: one-byte tag, two-byte length (high byte first), value. Tag 01 is a
+-- name. At most 16 names, 0 allowed, no name twice; a bad name, another tag or a cut field is refusal 15 too."
+use Prim.Native.Nat.{ℕ, zero, suc, _+_, _*_}
+use mathlib.Core.Bool.{Bool, cond, not, _&&_}
+use mathlib.Core.List.{List, [], _∷_, _++_}
+use mathlib.Core.Option.{Option, some, none}
+use lib.Dec.{eqb, leb, ltb}
+use lib.ListN.{length, take}
+use Rattle.refusals.specs.Numbers.{badList}
+use Rattle.packet.specs.Names.{validName}
+use Rattle.rows.specs.Names.{placeOf, isIn}
+use Rattle.rows.specs.Rows.{rowCount, rowNames, watched, freshRow, putRow, boardOf}
+use Rattle.rows.specs.declared.Board.{Board}
+use Rattle.board.specs.declared.list.Field.{Field}
+use Rattle.board.specs.declared.list.Field.the-variants.{Name, Bad}
+use Rattle.board.specs.declared.list.Listed.the-variants.{Accepted, Refused}
+use Rattle.board.specs.declared.list.Watched.{Watched}
+
+-- whether a name may join the names before it: a valid name, none of them, and fewer than 16 before it
+unfoldable pub mayJoin : List (List ℕ) → List ℕ → Bool
+mayJoin names name = validName name && (not (isIn name names) && ltb (length names) rowCount)
+
+-- the length that a field has
+abbrev pub sizeOf : ℕ → ℕ → ℕ
+sizeOf high low = high * 256 + low
+
+-- whether a field is a whole name: the value is no longer than the rest behind the length
+abbrev pub isWhole : ℕ → ℕ → List ℕ → Bool
+isWhole tag size rest = eqb tag 0x01 && leb size (length rest)
+
+-- the names of the fields, behind those before them; none where a field is refused. `skip` bytes of a name that has joined
+-- are passed over first.
+unfoldable pub namesFrom : ℕ → List (List ℕ) → List ℕ → Option (List (List ℕ))
+namesFrom zero names [] = some names
+namesFrom zero names (tag ∷ []) = none
+namesFrom zero names (tag ∷ high ∷ []) = none
+namesFrom zero names (tag ∷ high ∷ low ∷ rest) =
+    cond (isWhole tag (sizeOf high low) rest && mayJoin names (take (sizeOf high low) rest))
+    (namesFrom (sizeOf high low) (names ++ (take (sizeOf high low) rest ∷ [])) rest)
+    none
+namesFrom (suc skip) names [] = none
+namesFrom (suc skip) names (byte ∷ rest) = namesFrom skip names rest
+
+-- the names of a watch list, in its order, or none where it is refused
+abbrev pub watchNames : List ℕ → Option (List (List ℕ))
+watchNames fields = namesFrom 0 [] fields
+
+-- the length of the name that the fields begin with, or none where they begin with another field or a cut one
+unfoldable pub fieldOf : List ℕ → Option ℕ
+fieldOf [] = none
+fieldOf (tag ∷ []) = none
+fieldOf (tag ∷ high ∷ []) = none
+fieldOf (tag ∷ high ∷ low ∷ rest) = cond (isWhole tag (sizeOf high low) rest) (some (sizeOf high low)) none
+
+-- how the code answers a field
+abbrev pub asField : Option ℕ → Field
+asField (some size) = Name size
+asField none = Bad
+
+-- how the code answers a watch list or a name that is refused
+abbrev pub refusedWith : Board → Watched
+refusedWith board = record { board = board; answer = Refused badList }
+
+abbrev pub acceptedWith : Board → Watched
+acceptedWith board = record { board = board; answer = Accepted }
+
+-- the answer to a watch list: the board of its names, and where it is refused a board that shows nothing of it
+abbrev pub asWatched : Option (List (List ℕ)) → Watched
+asWatched (some names) = acceptedWith (boardOf names)
+asWatched none = refusedWith (boardOf [])
+
+-- the board with the name in the row at place
+abbrev pub joinBoard : Board → List ℕ → Option ℕ → Board
+joinBoard board name (some place) = putRow place (freshRow name) board
+joinBoard board name none = board
+
+-- one name more: in the first unused row, or refused with the board as it was
+unfoldable pub watchBoard : Board → List ℕ → Watched
+watchBoard board name =
+    cond (mayJoin (watched board) name) (acceptedWith (joinBoard board name (placeOf [] (rowNames board)))) (refusedWith board)

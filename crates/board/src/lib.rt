@@ -1,0 +1,11 @@
+// The board: which names it watches, and how it reads packets.
+mod list;
+mod reading;
+
+pub use list::Listed;
+pub use list::Watched;
+pub use list::watch;
+pub use list::watch_list;
+pub use reading::Answer;
+pub use reading::Reading;
+pub use reading::read;

@@ -1,0 +1,130 @@
+// The board's reading of a packet.
+ghost use mathlib.Core.Path.{_≡_};
+ghost use Rattle.packet.specs.Packet.{packetOf, packetItems};
+ghost use Rattle.board.specs.Reading.{taskOf, taskOfItems, asTask, readUpdate, readBoard, refusedWith};
+use packet::EOF_KIND;
+use packet::Found;
+use packet::NAME_KIND;
+use packet::valid_name;
+use rows::Board;
+use rows::Place;
+use rows::find;
+use rows::update;
+use value::Value;
+use value::read_value;
+
+// The opcode that the board reads.
+pub const UPDATE: u8 = 0x03;
+
+// What became of a packet: an update of the row at a place, an end mark, or a refusal by number.
+pub enum Answer {
+    Updated(usize),
+    EndMark,
+    Refused(u8),
+}
+
+pub struct Reading {
+    pub board: Board,
+    pub answer: Answer,
+}
+
+// What a packet asks of the board, before its Name is looked at.
+enum Task {
+    Reject(u8),
+    Finish,
+    Apply,
+}
+
+// The board after a packet. A refused packet and an end mark leave it as it was.
+pub fn read(board: Board, packet: &[u8]) -> Reading
+    ensures { λ r. ⌜ r ≡ readBoard board (now (packet .entry)) ⌝ }
+{
+    match judge(packet) {
+        Task::Reject(number) => refused(board, number),
+        Task::Finish => Reading {
+            board,
+            answer: Answer::EndMark,
+        },
+        Task::Apply => read_update(board, packet),
+    }
+}
+
+// Tests the packet, its opcode and how many Names it has.
+fn judge(packet: &[u8]) -> Task
+    ensures { λ r. ⌜ r ≡ asTask (taskOf (packetOf (now (packet .entry)))) ⌝ }
+{
+    match packet::read_packet(packet) {
+        packet::Reading::Refused(number) => Task::Reject(number),
+        packet::Reading::Packet { opcode, id: _ } => {
+            if opcode == UPDATE {
+                judge_items(packet)
+            } else {
+                Task::Reject(refusals::OTHER_OPCODE)
+            }
+        }
+    }
+}
+
+fn judge_items(packet: &[u8]) -> Task
+    ensures { λ r. ⌜ r ≡ asTask (taskOfItems (packetItems (now (packet .entry)))) ⌝ }
+{
+    let names = packet::count(packet, NAME_KIND);
+    if names == 1 {
+        return Task::Apply;
+    }
+    if names == 0 {
+        let ends = packet::count(packet, EOF_KIND);
+        if 0 < ends {
+            return Task::Finish;
+        }
+    }
+    Task::Reject(refusals::BAD_NAME)
+}
+
+// Reads a packet with one Name: the Name, the value item right behind it, then the row.
+fn read_update(board: Board, packet: &[u8]) -> Reading
+    ensures { λ r. ⌜ r ≡ readUpdate board (packetItems (now (packet .entry))) ⌝ }
+{
+    let Found::At {
+        kind: _,
+        start,
+        length,
+    } = packet::find(packet, NAME_KIND)
+    else {
+        return refused(board, refusals::BAD_NAME);
+    };
+    let end = start + length;
+    let name = &packet[start..end];
+    let valid = valid_name(name);
+    if !valid {
+        return refused(board, refusals::BAD_NAME);
+    }
+    let Found::At {
+        kind,
+        start: first,
+        length: count,
+    } = packet::behind(packet, NAME_KIND)
+    else {
+        return refused(board, refusals::BAD_VALUE);
+    };
+    let last = first + count;
+    let Value::Number(value) = read_value(kind, &packet[first..last]) else {
+        return refused(board, refusals::BAD_VALUE);
+    };
+    let Place::Row(place) = find(board, name) else {
+        return refused(board, refusals::NOT_WATCHED);
+    };
+    Reading {
+        board: update(board, place, value),
+        answer: Answer::Updated(place),
+    }
+}
+
+fn refused(board: Board, number: u8) -> Reading
+    ensures { λ r. ⌜ r ≡ refusedWith board number ⌝ }
+{
+    Reading {
+        board,
+        answer: Answer::Refused(number),
+    }
+}

@@ -1,0 +1,30 @@
+-- A name's bytes are tested one after the other, behind its length and its first letter.
+use mathlib.Core.Path.{_≡_, refl, sym, _∙_}
+use mathlib.Core.Bool.{Bool, true, false, _&&_}
+use mathlib.Core.List.{List, []}
+use Prim.Native.Nat.{ℕ, suc, _≤_, _<_}
+use lib.ListN.{length, drop, getD, drop-of-length-le}
+use lib.Seq.{drop-cons}
+use borrow.Author.Tests.{le-leb}
+use Rattle.packet.specs.Names.{between, isLetter, isNameByte, allNameBytes, validName}
+
+-- with a good length and a first letter the bytes settle it
+pub valid-when : (name : List ℕ) → 1 ≤ length name → length name ≤ 27 → isLetter (getD name 0 0) ≡ true → validName name ≡ allNameBytes name
+unfolding validName between
+valid-when name some few first = rw (le-leb 1 (length name) some, le-leb (length name) 27 few, first)
+
+module _ (name : List ℕ) (i : ℕ) (h : i < length name) where
+  -- a byte that a name may have is passed over
+  pub byte-passed : isNameByte (getD name i 0) ≡ true → allNameBytes (drop i name) ≡ allNameBytes (drop (suc i) name)
+  unfolding allNameBytes
+  byte-passed e = rw (drop-cons name i 0 h, e)
+
+  -- another settles it
+  pub byte-refused : isNameByte (getD name i 0) ≡ false → allNameBytes (drop i name) ≡ false
+  unfolding allNameBytes
+  byte-refused e = rw (drop-cons name i 0 h, e)
+
+-- past the last byte nothing is refused
+pub bytes-ended : (name : List ℕ) (i : ℕ) → length name ≤ i → allNameBytes (drop i name) ≡ true
+unfolding allNameBytes
+bytes-ended name i h = rw (drop-of-length-le name h)

@@ -1,0 +1,188 @@
+-- What the item reader's steps answer follows from the item rule: one law for each way through the reader.
+use mathlib.Core.Path.{_≡_, refl, sym, ap, _∙_}
+use mathlib.Core.Bool.{Bool, true, false, cond, _&&_}
+use mathlib.Core.List.{List, [], _∷_}
+use mathlib.Core.Option.{Option, none, some}
+use Prim.Native.Nat.{ℕ, zero, suc, _+_, _-_, _*_, _≤_, _<_}
+use native.Mathlib.Omega.{arith}
+use lib.Dec.{leb, eqb}
+use lib.ListN.{length, getD, take, drop, length-drop}
+use lib.Seq.{length-take-le, take-all}
+use borrow.Author.Tests.{le-leb, lt-leb, leb-true, leb-false, eq-eqb, ne-eqb}
+use Rattle.packet.specs.Items.{Item, inFront, eofKind, emptyIfEof, itemsOf, countOf}
+use Rattle.packet.specs.Answers.{placed, past, headIn, findIn, behindIn}
+use Rattle.packet.specs.Walk.{beginsWithItem, tallyOf}
+use Rattle.packet.specs.declared.Found.{Found}
+use Rattle.packet.specs.declared.Found.the-variants.{At, Nothing}
+use Rattle.packet.specs.declared.Tally.{Tally}
+use Rattle.packet.specs.declared.Tally.the-variants.{Items, Broken}
+use Rattle.packet.proofs.ItemLaws.{good-end, good-cut, good-rule, items-few, count-few}
+
+-- the item that bytes begin with
+abbrev pub firstItem : List ℕ → Item
+firstItem bytes = record { kind = getD bytes 0 0; value = take (getD bytes 1 0) (drop 2 bytes) }
+
+pub record Both (t u : Bool) : Type 0 where
+  pub first : t ≡ true
+  pub second : u ≡ true
+
+pub both : (t u : Bool) → (t && u) ≡ true → Both t u
+both true u h = record { first = refl; second = h }
+both false u h = let z : _≡_ {A = ℕ} 0 1 = cc in absurd (omega arith)
+
+-- the tests that bytes pass which begin with an item
+abbrev two : List ℕ → Bool
+two bytes = leb 2 (length bytes)
+
+abbrev room : List ℕ → Bool
+room bytes = leb (getD bytes 1 0 + 2) (length bytes)
+
+abbrev eof : List ℕ → Bool
+eof bytes = cond (eqb (getD bytes 0 0) eofKind) (eqb (getD bytes 1 0) 0) true
+
+tests : (bytes : List ℕ) → beginsWithItem bytes ≡ true → Both (room bytes) (eof bytes)
+unfolding beginsWithItem
+tests bytes h = both (room bytes) (eof bytes) (both (two bytes) (room bytes && eof bytes) h .second)
+
+-- bytes that begin with an item hold it whole
+pub begins-room : (bytes : List ℕ) → beginsWithItem bytes ≡ true → getD bytes 1 0 + 2 ≤ length bytes
+begins-room bytes h = leb-true (getD bytes 1 0 + 2) (length bytes) (tests bytes h .first)
+
+-- the EOF test of an item that is whole
+eof-test : (kind size : ℕ) (rest : List ℕ) → size ≤ length rest → emptyIfEof (record { kind = kind; value = take size rest }) ≡ cond (eqb kind eofKind) (eqb size 0) true
+unfolding emptyIfEof
+eof-test kind size rest fits = rw (length-take-le size rest fits)
+
+-- an item, and the items behind it
+pub whole : (bytes : List ℕ) → beginsWithItem bytes ≡ true → itemsOf bytes ≡ inFront (firstItem bytes) (itemsOf (drop (getD bytes 1 0 + 2) bytes))
+unfolding beginsWithItem
+whole [] h = let z : _≡_ {A = ℕ} 0 1 = cc in absurd (omega arith)
+whole (kind ∷ []) h = let z : _≡_ {A = ℕ} 0 1 = cc in absurd (omega arith)
+whole (kind ∷ size ∷ rest) h =
+    let room : size + 2 ≤ suc (suc (length rest)) = begins-room (kind ∷ size ∷ rest) h in
+    let fits : size ≤ length rest = omega arith in
+    let on : size + 2 ≡ suc (suc size) = omega arith in
+    rw (good-rule kind size rest, le-leb size (length rest) fits, eof-test kind size rest fits, tests (kind ∷ size ∷ rest) h .second, on)
+
+-- neither the end nor an item: nothing is read
+pub broken : (bytes : List ℕ) → (length bytes ≡ 0 → ⊥) → beginsWithItem bytes ≡ false → itemsOf bytes ≡ none
+unfolding beginsWithItem
+broken [] ne h = absurd (ne refl)
+broken (kind ∷ []) ne h = good-cut kind
+broken (kind ∷ size ∷ rest) ne h = cases (leb size (length rest)) refl
+  where
+    cases : (t : Bool) → leb size (length rest) ≡ t → itemsOf (kind ∷ size ∷ rest) ≡ none
+    cases false e = rw (good-rule kind size rest, e)
+    cases true e =
+        let fits : size ≤ length rest = leb-true _ _ e in
+        let more : leb 2 (suc (suc (length rest))) ≡ true = le-leb 2 (suc (suc (length rest))) (omega arith) in
+        let long : leb (size + 2) (suc (suc (length rest))) ≡ true = le-leb (size + 2) (suc (suc (length rest))) (omega arith) in
+        let test : cond (eqb kind eofKind) (eqb size 0) true ≡ false = rw (more, long) at h in
+        rw (good-rule kind size rest, e, eof-test kind size rest fits, test)
+
+-- the part of the bytes from a place to their end is what is left when that many are dropped
+pub part-rest : (bytes : List ℕ) (n : ℕ) → take (length bytes - n) (drop n bytes) ≡ drop n bytes
+part-rest bytes n = take-all (length bytes - n) (drop n bytes) (simp length-drop (omega arith))
+
+module _ (at wanted : ℕ) (item : Item) where
+  -- the items behind this one are broken
+  tally-broken : (read : Option (List Item)) → tallyOf (past at item) wanted read ≡ Broken → Broken ≡ tallyOf at wanted (inFront item read)
+  unfolding tallyOf inFront
+  tally-broken none e = refl
+  tally-broken (some items) e = let z : _≡_ {A = ℕ} 0 1 = cc in absurd (omega arith)
+
+  module _ (all count : ℕ) (first behind head : Found) where
+    -- this item is of the wanted kind
+    tally-wanted : (read : Option (List Item)) → tallyOf (past at item) wanted read ≡ Items all count first behind head → item .kind ≡ wanted → Items (all + 1) (count + 1) (placed at item) head (placed at item) ≡ tallyOf at wanted (inFront item read)
+    unfolding tallyOf inFront countOf findIn behindIn headIn
+    tally-wanted none e k = let z : _≡_ {A = ℕ} 0 1 = cc in absurd (omega arith)
+    tally-wanted (some items) e k =
+        let a : length items ≡ all = cc in
+        let c : countOf wanted items ≡ count = cc in
+        let h : headIn (past at item) items ≡ head = cc in
+        let a1 : all + 1 ≡ suc (length items) = omega arith in
+        let c1 : count + 1 ≡ 1 + countOf wanted items = omega arith in
+        rw (eq-eqb (item .kind) wanted k, a1, c1, h)
+
+    -- this item is of another kind
+    tally-other : (read : Option (List Item)) → tallyOf (past at item) wanted read ≡ Items all count first behind head → (item .kind ≡ wanted → ⊥) → Items (all + 1) count first behind (placed at item) ≡ tallyOf at wanted (inFront item read)
+    unfolding tallyOf inFront countOf findIn behindIn headIn
+    tally-other none e k = let z : _≡_ {A = ℕ} 0 1 = cc in absurd (omega arith)
+    tally-other (some items) e k =
+        let a : length items ≡ all = cc in
+        let c : countOf wanted items ≡ count = cc in
+        let f : findIn (past at item) wanted items ≡ first = cc in
+        let b : behindIn (past at item) wanted items ≡ behind = cc in
+        let a1 : all + 1 ≡ suc (length items) = omega arith in
+        let c0 : 0 + countOf wanted items ≡ count = omega arith in
+        rw (ne-eqb (item .kind) wanted k, a1, c0, f, b)
+
+-- the end of the items
+pub walk-end : (bytes : List ℕ) (at wanted : ℕ) → length bytes ≡ 0 → Items 0 0 Nothing Nothing Nothing ≡ tallyOf at wanted (itemsOf bytes)
+unfolding tallyOf countOf findIn behindIn headIn
+walk-end [] at wanted h = rw good-end
+walk-end (byte ∷ bytes) at wanted h = absurd (omega arith)
+
+-- neither the end nor an item
+pub walk-cut : (bytes : List ℕ) (at wanted : ℕ) → (length bytes ≡ 0 → ⊥) → beginsWithItem bytes ≡ false → Broken ≡ tallyOf at wanted (itemsOf bytes)
+unfolding tallyOf
+walk-cut bytes at wanted ne h = rw (broken bytes ne h)
+
+-- the bytes behind their first item, as the code names them
+abbrev pub part : List ℕ → List ℕ
+part bytes = take (length bytes - (getD bytes 1 0 + 2)) (drop (getD bytes 1 0 + 2) bytes)
+
+-- an item, and what the reader says of the rest
+module _ (bytes : List ℕ) (at wanted : ℕ) (h : beginsWithItem bytes ≡ true) where
+  -- what is told of them
+  abbrev pub rest-told : Tally
+  rest-told = tallyOf (at + (getD bytes 1 0 + 2)) wanted (itemsOf (part bytes))
+
+  size : length (firstItem bytes .value) ≡ getD bytes 1 0
+  size =
+      let room : getD bytes 1 0 + 2 ≤ length bytes = begins-room bytes h in
+      length-take-le (getD bytes 1 0) (drop 2 bytes) (simp length-drop (omega arith))
+
+  item-placed : placed at (firstItem bytes) ≡ At (getD bytes 0 0) (at + 2) (getD bytes 1 0)
+  unfolding placed
+  item-placed = rw size
+
+  rest-same : tallyOf (past at (firstItem bytes)) wanted (itemsOf (drop (getD bytes 1 0 + 2) bytes)) ≡ rest-told
+  unfolding past
+  rest-same = rw (size, part-rest bytes (getD bytes 1 0 + 2))
+
+  pub walk-broken : rest-told ≡ Broken → Broken ≡ tallyOf at wanted (itemsOf bytes)
+  walk-broken e = rw (whole bytes h) (tally-broken at wanted (firstItem bytes) (itemsOf (drop (getD bytes 1 0 + 2) bytes)) (rest-same ∙ e))
+
+  module _ (all count : ℕ) (first behind head : Found) (e : rest-told ≡ Items all count first behind head) where
+    pub walk-wanted :
+        getD bytes 0 0 ≡ wanted
+        → Items (all + 1) (count + 1) (At (getD bytes 0 0) (at + 2) (getD bytes 1 0)) head (At (getD bytes 0 0) (at + 2) (getD bytes 1 0)) ≡ tallyOf at wanted (itemsOf bytes)
+    walk-wanted k =
+        rw (whole bytes h, ← item-placed)
+        (tally-wanted at wanted (firstItem bytes) all count first behind head (itemsOf (drop (getD bytes 1 0 + 2) bytes)) (rest-same ∙ e) k)
+
+    pub walk-other :
+        (getD bytes 0 0 ≡ wanted → ⊥)
+        → Items (all + 1) count first behind (At (getD bytes 0 0) (at + 2) (getD bytes 1 0)) ≡ tallyOf at wanted (itemsOf bytes)
+    walk-other k =
+        rw (whole bytes h, ← item-placed)
+        (tally-other at wanted (firstItem bytes) all count first behind head (itemsOf (drop (getD bytes 1 0 + 2) bytes)) (rest-same ∙ e) k)
+
+-- what is told of bytes counts no more than half of them
+pub record Few (bytes : List ℕ) (all count : ℕ) : Type 0 where
+  pub half : all * 2 ≤ length bytes
+  pub fewer : count ≤ all
+
+pub walk-few : (bytes : List ℕ) (at wanted all count : ℕ) (first behind head : Found) → tallyOf at wanted (itemsOf bytes) ≡ Items all count first behind head → Few bytes all count
+unfolding tallyOf
+walk-few bytes at wanted all count first behind head e = cases (itemsOf bytes) refl e
+  where
+    cases : (read : Option (List Item)) → itemsOf bytes ≡ read → tallyOf at wanted read ≡ Items all count first behind head → Few bytes all count
+    cases none r e = let z : _≡_ {A = ℕ} 0 1 = cc in absurd (omega arith)
+    cases (some items) r e =
+        let a : length items ≡ all = cc in
+        let c : countOf wanted items ≡ count = cc in
+        let few : length items * 2 ≤ length bytes = items-few bytes items r in
+        let fewer : countOf wanted items ≤ length items = count-few wanted items in
+        record { half = omega arith; fewer = omega arith }

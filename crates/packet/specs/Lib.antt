@@ -1,0 +1,6 @@
+pub mod Items
+pub mod Packet
+pub mod Names
+pub mod Answers
+pub mod Requests
+pub mod Walk

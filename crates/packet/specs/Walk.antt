@@ -1,0 +1,28 @@
+-- What the steps of the item reader answer. The laws in proofs/ tie these to the rule of Items.
+use Prim.Native.Nat.{ℕ, _+_}
+use mathlib.Core.Bool.{Bool, true, cond, _&&_}
+use mathlib.Core.List.{List}
+use mathlib.Core.Option.{Option, none, some}
+use lib.Dec.{leb, eqb}
+use lib.ListN.{length, getD, drop}
+use Rattle.packet.specs.Items.{Item, eofKind, countOf, itemsOf}
+use Rattle.packet.specs.Packet.{isData}
+use Rattle.packet.specs.Answers.{headIn, findIn, behindIn}
+use Rattle.packet.specs.declared.Tally.{Tally}
+use Rattle.packet.specs.declared.Tally.the-variants.{Items, Broken}
+
+-- a type byte, a length byte N, and N bytes behind them: none if the type is EOF
+unfoldable pub beginsWithItem : List ℕ → Bool
+beginsWithItem bytes =
+    leb 2 (length bytes)
+    && (leb (getD bytes 1 0 + 2) (length bytes) && cond (eqb (getD bytes 0 0) eofKind) (eqb (getD bytes 1 0) 0) true)
+
+-- what is told of the items from the place at on, with a wanted kind
+unfoldable pub tallyOf : ℕ → ℕ → Option (List Item) → Tally
+tallyOf at kind none = Broken
+tallyOf at kind (some items) =
+    Items (length items) (countOf kind items) (findIn at kind items) (behindIn at kind items) (headIn at items)
+
+-- the same of a packet, whose items stand behind its first four bytes
+unfoldable pub packetTally : ℕ → List ℕ → Tally
+packetTally kind bytes = cond (isData bytes) (tallyOf 4 kind (itemsOf (drop 4 bytes))) Broken

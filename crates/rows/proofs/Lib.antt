@@ -1,0 +1,5 @@
+pub mod EntryLaws
+pub mod KnownAnswers
+pub mod LengthLaws
+pub mod NameLaws
+pub mod RowLaws

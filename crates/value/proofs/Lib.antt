@@ -1,0 +1,2 @@
+pub mod KnownAnswers
+pub mod ValueLaws

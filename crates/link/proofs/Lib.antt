@@ -3,3 +3,8 @@ pub mod ReaderLaws
 pub mod WalkLaws
 pub mod ClosingLaws
 pub mod ReceivingLaws
+pub mod TakenLaws
+pub mod SeenLaws
+pub mod RunLaws
+pub mod FrameLaws
+pub mod OursLaws

@@ -5,9 +5,9 @@ use Prim.Native.Nat.{ℕ, suc, _≤_, _<_}
 use borrow.Author.Tests.{lt-ltb, le-ltb}
 use Rattle.frame.specs.Stuffing.{contentMax, plain, escaped, Meaning, meaning}
 use Rattle.link.specs.declared.reader.Phase.{Phase}
-use Rattle.link.specs.declared.reader.Phase.the-variants.{Before, Plain, Escaped, BadFraming, LongContent}
+use Rattle.link.specs.declared.reader.Phase.the-variants.{Plain, Escaped, LongContent}
 use Rattle.link.specs.declared.reader.Reader.{Reader}
-use Rattle.link.specs.Reader.{Step, turned, storeOf, stepBy, stepOf, StepsAs}
+use Rattle.link.specs.Reader.{Step, turned, storeOf, stepBy, stepIn, stepOf, StepsAs}
 
 -- a byte of content is stored while there is room
 pub store-room : (held b : ℕ) → held < contentMax
@@ -26,18 +26,11 @@ module _ (reader : Reader) (b : ℕ) where
   unfolding stepOf
   step-escaped m e is = rw (e, is)
 
-  -- before the first flag and behind a fault nothing changes
-  pub step-before : reader .phase ≡ Before → stepOf reader b ≡ turned (reader .phase) (reader .length)
+  -- before the first flag and behind a fault no byte changes anything
+  pub step-idle : (phase : Phase) → ((held : ℕ) → stepIn phase held b ≡ turned phase held) → reader .phase ≡ phase
+      → stepOf reader b ≡ turned (reader .phase) (reader .length)
   unfolding stepOf
-  step-before e = rw e
-
-  pub step-bad : reader .phase ≡ BadFraming → stepOf reader b ≡ turned (reader .phase) (reader .length)
-  unfolding stepOf
-  step-bad e = rw e
-
-  pub step-long : reader .phase ≡ LongContent → stepOf reader b ≡ turned (reader .phase) (reader .length)
-  unfolding stepOf
-  step-long e = rw e
+  step-idle phase idle e = rw (e, idle (reader .length))
 
 -- a byte that brings no content leaves the array as it was
 pub turns : (step : Step) (phase : Phase) (held : ℕ) (content : List ℕ) → step ≡ turned phase held

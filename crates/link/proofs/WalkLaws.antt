@@ -1,6 +1,6 @@
 -- The walk over a piece goes byte by byte: a byte at which it goes on, a flag at which it stops, and the end of the piece.
 use mathlib.Core.Path.{_≡_, refl, sym, ap, _∙_}
-use mathlib.Core.Bool.{Bool, true, false}
+use mathlib.Core.Bool.{Bool, true, false, cond}
 use mathlib.Core.List.{List, [], _∷_, _++_}
 use Prim.Native.Nat.{ℕ, suc, _+_, _≤_, _<_}
 use native.Mathlib.Numerals.{add-one}
@@ -44,7 +44,7 @@ module _ (piece : List ℕ) (i : ℕ) (content : List ℕ) (reader : Reader) whe
   walk-end h = rw (drop-of-length-le piece h)
 
 -- the array of content keeps its length
-turn-length : (content : List ℕ) (reader : Reader) (b : ℕ) (content₁ : List ℕ) (reader₁ : Reader) → turnOf content reader b ≡ goes-on content₁ reader₁
+pub turn-length : (content : List ℕ) (reader : Reader) (b : ℕ) (content₁ : List ℕ) (reader₁ : Reader) → turnOf content reader b ≡ goes-on content₁ reader₁
     → length content₁ ≡ length content
 unfolding turnOf
 turn-length content reader b content₁ reader₁ e = by-flag (eqb b flagByte) refl
@@ -71,3 +71,46 @@ walk-length (b ∷ bs) content reader n = by-turn (λ content₁ reader₁. walk
         → length (goOn turn content (suc n) (λ content₁ reader₁ n₁. walkOf bs content₁ reader₁ n₁) .content) ≡ length content
     by-turn rest (goes-on content₁ reader₁) e = rest content₁ reader₁ ∙ turn-length content reader b content₁ reader₁ e
     by-turn rest (stops end) e = refl
+
+-- a flag that stops the walk ended something
+stops-at-an-end : (content : List ℕ) (reader : Reader) (b : ℕ) → turnOf content reader b ≡ stops ends.Nothing → ⊥
+unfolding turnOf
+stops-at-an-end content reader b e = by-flag (eqb b flagByte) e
+  where
+    by-end : (end : Ended) → flagTurn content end ≡ stops ends.Nothing → ⊥
+    by-end ends.Nothing f = let z : _≡_ {A = ℕ} 0 1 = cc in omega arith
+    by-end (ends.Content n) f = let z : _≡_ {A = ℕ} 0 1 = cc in omega arith
+    by-end (ends.Refused n) f = let z : _≡_ {A = ℕ} 0 1 = cc in omega arith
+
+    by-flag : (t : Bool)
+        → cond t (flagTurn content (endedBy reader)) (goes-on (contentAfter content (reader .length) (stepOf reader b)) (stepOf reader b .reader)) ≡ stops ends.Nothing
+        → ⊥
+    by-flag true f = by-end (endedBy reader) f
+    by-flag false f = let z : _≡_ {A = ℕ} 0 1 = cc in omega arith
+
+-- a walk goes on over more bytes, unless it has stopped
+abbrev pub onwardBy : Ended → Walk → List ℕ → Walk
+onwardBy ends.Nothing walk bytes = walkOf bytes (walk .content) (walk .reader) (walk .taken)
+onwardBy (ends.Content n) walk bytes = walk
+onwardBy (ends.Refused n) walk bytes = walk
+
+abbrev pub onward : Walk → List ℕ → Walk
+onward walk bytes = onwardBy (walk .ended) walk bytes
+
+-- a piece that is cut in two is walked as its first part and then the rest
+pub walk-append : (first rest content : List ℕ) (reader : Reader) (n : ℕ)
+    → walkOf (first ++ rest) content reader n ≡ onward (walkOf first content reader n) rest
+unfolding walkOf
+walk-append [] rest content reader n = refl
+walk-append (b ∷ first) rest content reader n =
+    by-turn (λ content₁ reader₁. walk-append first rest content₁ reader₁ (suc n)) (turnOf content reader b) (stops-at-an-end content reader b)
+  where
+    by-turn : ((content₁ : List ℕ) (reader₁ : Reader)
+        → walkOf (first ++ rest) content₁ reader₁ (suc n) ≡ onward (walkOf first content₁ reader₁ (suc n)) rest)
+        → (turn : Turn) → (turn ≡ stops ends.Nothing → ⊥)
+        → goOn turn content (suc n) (λ content₁ reader₁ n₁. walkOf (first ++ rest) content₁ reader₁ n₁)
+        ≡ onward (goOn turn content (suc n) (λ content₁ reader₁ n₁. walkOf first content₁ reader₁ n₁)) rest
+    by-turn more (goes-on content₁ reader₁) some = more content₁ reader₁
+    by-turn more (stops ends.Nothing) some = absurd (some refl)
+    by-turn more (stops (ends.Content k)) some = refl
+    by-turn more (stops (ends.Refused k)) some = refl

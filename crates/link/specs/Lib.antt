@@ -3,3 +3,4 @@ pub mod Walk
 pub mod Counts
 pub mod Closing
 pub mod Receiving
+pub mod Seen

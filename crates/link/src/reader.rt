@@ -43,7 +43,7 @@ pub struct Walked {
 }
 
 // Walks the piece to the flag that ends a frame with any content byte or fault, or to its end.
-pub fn walk(piece: &[u8], content: &mut [u8; 387], reader: Reader) -> Walked
+pub fn walk(piece: &[u8], content: &mut [u8; CONTENT_MAX], reader: Reader) -> Walked
     ensures { λ r. ⌜ WalksAs (walkOf (now (piece .entry)) (now (content .entry)) reader 0) r (now (content .exit)) ⌝ }
 {
     let mut next = reader;
@@ -106,7 +106,7 @@ fn ended_by_flag(reader: Reader) -> Ended
 
 // Takes one byte that is no flag. A pair's second byte is 20 hex less than the byte that the pair
 // stands for.
-fn step(reader: Reader, byte: u8, content: &mut [u8; 387]) -> Reader
+fn step(reader: Reader, byte: u8, content: &mut [u8; CONTENT_MAX]) -> Reader
     ensures { λ r. ⌜ StepsAs (stepOf reader byte) (reader .length) (now (content .entry)) r (now (content .exit)) ⌝ }
 {
     let phase = reader.phase;
@@ -135,7 +135,7 @@ fn step(reader: Reader, byte: u8, content: &mut [u8; 387]) -> Reader
 }
 
 // Puts one byte behind `length` bytes of content; the 388th is refusal 2.
-fn store(length: usize, byte: u8, content: &mut [u8; 387]) -> Reader
+fn store(length: usize, byte: u8, content: &mut [u8; CONTENT_MAX]) -> Reader
     ensures { λ r. ⌜ StepsAs (storeOf length byte) length (now (content .entry)) r (now (content .exit)) ⌝ }
 {
     if length < CONTENT_MAX {

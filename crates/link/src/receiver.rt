@@ -8,6 +8,7 @@ use crate::reader::Ended;
 use crate::reader::Phase;
 use crate::reader::Reader;
 use crate::reader::walk;
+use frame::CONTENT_MAX;
 use frame::PAYLOAD_MAX;
 use frame::content::FrameRead;
 use frame::content::judge;
@@ -38,7 +39,7 @@ pub enum Last {
 // The link's state between two pieces: the content since the last flag is the first bytes of
 // `content`, as many as the reader says.
 pub struct Link {
-    pub content: [u8; 387],
+    pub content: [u8; CONTENT_MAX],
     pub reader: Reader,
     pub last: Last,
     pub counts: Counts,
@@ -72,7 +73,7 @@ pub fn fresh() -> Link
     ensures { λ r. ⌜ r ≡ freshLink ⌝ }
 {
     Link {
-        content: [0u8; 387],
+        content: [0u8; CONTENT_MAX],
         reader: Reader {
             phase: Phase::Before,
             length: 0,

@@ -1,12 +1,12 @@
 -- `link::reader::step` meets its contract: each way through it has its law.
 use borrow.Author.Needs.{needs}
-use mathlib.Core.Path.{_≡_}
+use mathlib.Core.Path.{_≡_, refl}
 use Prim.Native.Nat.{_+_, _≤_}
 use native.Mathlib.Omega.{arith}
 use Rattle.frame.specs.Stuffing.{escapes-next, stands-for, faulty}
 use Rattle.frame.proofs.UnstuffLaws.{plain-escape, plain-byte, escaped-byte, escaped-fault}
-use Rattle.link.specs.declared.reader.Phase.the-variants.{Escaped, BadFraming}
-use Rattle.link.proofs.ReaderLaws.{step-plain, step-escaped, step-before, step-bad, step-long, turns}
+use Rattle.link.specs.declared.reader.Phase.the-variants.{Before, Escaped, BadFraming, LongContent}
+use Rattle.link.proofs.ReaderLaws.{step-plain, step-escaped, step-idle, turns}
 use Rattle.link.proofs.reader.step.Statement.{statement}
 use Rattle.link.proofs.reader.step.Tie as tie
 
@@ -75,17 +75,17 @@ returns-5 c =
 returns-6 : tie.Need-returns-6
 returns-6 c =
     let a = c .before .before .args in
-    turns _ (a .reader .phase) (a .reader .length) (a .content .now) (step-before (a .reader) (a .byte) (c .enum-told3 .given .1))
+    turns _ (a .reader .phase) (a .reader .length) (a .content .now) (step-idle (a .reader) (a .byte) Before (λ held. refl) (c .enum-told3 .given .1))
 
 returns-7 : tie.Need-returns-7
 returns-7 c =
     let a = c .before .before .args in
-    turns _ (a .reader .phase) (a .reader .length) (a .content .now) (step-bad (a .reader) (a .byte) (c .enum-told4 .given .1))
+    turns _ (a .reader .phase) (a .reader .length) (a .content .now) (step-idle (a .reader) (a .byte) BadFraming (λ held. refl) (c .enum-told4 .given .1))
 
 returns-8 : tie.Need-returns-8
 returns-8 c =
     let a = c .before .before .args in
-    turns _ (a .reader .phase) (a .reader .length) (a .content .now) (step-long (a .reader) (a .byte) (c .enum-told5 .given .1))
+    turns _ (a .reader .phase) (a .reader .length) (a .content .now) (step-idle (a .reader) (a .byte) LongContent (λ held. refl) (c .enum-told5 .given .1))
 
 pub step-spec : {M : Type 1} → statement M
 step-spec =

@@ -1,0 +1,18 @@
+-- `display::hand_up` meets its contract: the reading is counted, and its board is the new one.
+use borrow.Author.Needs.{needs}
+use Rattle.display.proofs.hand_up.Statement.{statement}
+use Rattle.display.proofs.hand_up.Tie as tie
+use Rattle.display.proofs.hand_up.Reads as reads
+use Rattle.display.proofs.hand_up.Lts as lts
+use Rattle.display.proofs.count_reading.Reads as count-reading-reads
+
+-- src/lib.rt:86:9
+count-reading-requires : tie.Need-count-reading-requires
+count-reading-requires c κs = search needs
+
+-- src/lib.rt:75:1
+returns : tie.Need-returns
+returns c = rw (c .count-reading .ensures)
+
+pub hand-up-spec : {M : Type 1} → statement M
+hand-up-spec = tie.close (tie.spec count-reading-requires returns)

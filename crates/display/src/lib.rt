@@ -1,0 +1,123 @@
+// What the shed display runs: bytes from the module go in by pieces and minutes by ticks, over the
+// link's state and the board.
+use link::receiver::Link;
+use link::receiver::count_unread;
+use rows::Board;
+ghost use mathlib.Core.Path.{_≡_};
+ghost use lib.ListN.{length};
+ghost use Rattle.display.specs.Display.{countReading, takeReading, keepBoard, fresh, tickDisplay, receivePiece, DisplaysAs};
+
+pub struct Display {
+    pub link: Link,
+    pub board: Board,
+}
+
+// What a piece brought: no frame; a refusal's number; the sequence of an acknowledgement; the length
+// of the reply to a data frame that came again; or the lengths of a new one's reply and payload, and
+// what the board read in it.
+pub enum Answer {
+    Nothing,
+    Refused(u8),
+    Heard(u8),
+    Again(usize),
+    New {
+        reply: usize,
+        packet: usize,
+        reading: board::Answer,
+    },
+}
+
+pub struct Received {
+    pub display: Display,
+    pub taken: usize,
+    pub answer: Answer,
+}
+
+// A display before the first byte, with a board.
+pub fn start(board: Board) -> Display
+    ensures { λ r. ⌜ r ≡ fresh board ⌝ }
+{
+    let link = link::receiver::fresh();
+    Display { link, board }
+}
+
+// A minute has passed.
+pub fn tick(display: Display) -> Display
+    ensures { λ r. ⌜ r ≡ tickDisplay display ⌝ }
+{
+    let link = display.link;
+    let board = rows::tick(display.board);
+    Display { link, board }
+}
+
+// Takes bytes of the piece up to the flag that ends a frame, or all of them. Every new packet is
+// read by the board at once; one that the board refuses is counted as unread, and its frame stays
+// acknowledged and handed out.
+pub fn receive(display: Display, piece: &[u8], reply: &mut [u8], packet: &mut [u8]) -> Received
+    ensures { λ r. ⌜ DisplaysAs (receivePiece display (now (piece .entry)) (length (now (reply .entry))) (length (now (packet .entry)))) (now (reply .entry)) (now (packet .entry)) r (now (reply .exit)) (now (packet .exit)) ⌝ }
+{
+    let before = display.link;
+    let board = display.board;
+    let received = link::receiver::receive(before, piece, reply, packet);
+    let answer = received.answer;
+    match answer {
+        link::receiver::Answer::New {
+            reply: replied,
+            packet: length,
+        } => {
+            let reading = board::read(board, &packet[..length]);
+            hand_up(received, replied, length, reading)
+        }
+        link::receiver::Answer::Nothing => keep(received, board, Answer::Nothing),
+        link::receiver::Answer::Refused(number) => keep(received, board, Answer::Refused(number)),
+        link::receiver::Answer::Heard(sequence) => keep(received, board, Answer::Heard(sequence)),
+        link::receiver::Answer::Again(length) => keep(received, board, Answer::Again(length)),
+    }
+}
+
+// A new packet, with what the board read in it.
+fn hand_up(
+    received: link::receiver::Received,
+    reply: usize,
+    packet: usize,
+    reading: board::Reading,
+) -> Received
+    ensures { λ r. ⌜ r ≡ takeReading received reply packet reading ⌝ }
+{
+    let answer = reading.answer;
+    let board = reading.board;
+    let state = received.link;
+    let link = count_reading(state, answer);
+    Received {
+        display: Display { link, board },
+        taken: received.taken,
+        answer: Answer::New {
+            reply,
+            packet,
+            reading: answer,
+        },
+    }
+}
+
+// A packet that the board refused is unread.
+fn count_reading(link: Link, reading: board::Answer) -> Link
+    ensures { λ r. ⌜ r ≡ countReading link reading ⌝ }
+{
+    match reading {
+        board::Answer::Refused(_) => count_unread(link),
+        board::Answer::EndMark => link,
+        board::Answer::Updated(_) => link,
+    }
+}
+
+// A call that brought no new packet.
+fn keep(received: link::receiver::Received, board: Board, answer: Answer) -> Received
+    ensures { λ r. ⌜ r ≡ keepBoard received board answer ⌝ }
+{
+    let link = received.link;
+    Received {
+        display: Display { link, board },
+        taken: received.taken,
+        answer,
+    }
+}

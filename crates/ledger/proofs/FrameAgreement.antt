@@ -1,0 +1,275 @@
+-- What a closed frame does to link and board is what it does to the ledger: by what the frame is, and for a new packet by what the
+-- board reads in it.
+use mathlib.Core.Path.{_≡_, refl, sym, ap, _∙_}
+use mathlib.Core.Bool.{Bool, true, false, cond}
+use mathlib.Core.List.{List, [], _∷_, _++_, map}
+use mathlib.Core.Option.{Option, some, none}
+use Prim.Native.Nat.{ℕ, _-_}
+use lib.Dec.{eqb}
+use lib.IntN.{ℤ}
+use lib.ListN.{length, replicate}
+use Rattle.frame.specs.Content as content
+use Rattle.rows.specs.Entries as shown
+use Rattle.rows.specs.Entries.{entries, updateEntries}
+use Rattle.rows.specs.Names.{placeOf}
+use Rattle.rows.specs.Rows.{rowCount, rowNames, watched, updateBoard, boardOf}
+use Rattle.rows.specs.declared.Board.{Board}
+use Rattle.rows.proofs.EntryLaws.{entry-names}
+use Rattle.board.specs.Reading as reading
+use Rattle.board.specs.Reading.{Verdict, readingOf, readBoard, entriesAfter}
+use Rattle.board.specs.declared.reading.Reading as declared-reading
+use Rattle.board.specs.declared.reading.Answer.the-variants as board-says
+use Rattle.board.proofs.WatchLaws.{Fits}
+use Rattle.board.proofs.EntryLaws.{There, read-entries, read-refused, read-end, read-update, update-there}
+use Rattle.link.specs.Closing.{Outcome, dataType, acknowledgementType, acknowledgement, repeats, acknowledgementFrame, againFrame, newFrame, dataFrame, refusedFrame, readOutcome}
+use Rattle.link.specs.Receiving.{Call, callOf}
+use Rattle.link.specs.Walk.{Walk}
+use Rattle.link.specs.Counts.{countOf}
+use Rattle.link.specs.declared.counts.Counts as link-counts
+use Rattle.link.specs.declared.counts.Event.the-variants as event
+use Rattle.link.specs.declared.receiver.Answer.the-variants as link-says
+use Rattle.link.specs.declared.receiver.Last.{Last}
+use Rattle.display.specs.Display.{received, takeReading, resultOf}
+use Rattle.display.specs.declared.Received.{Received}
+use Rattle.ledger.specs.Ledger.{Entry, Ledger, nameOf}
+use Rattle.ledger.specs.Frames as frames
+use Rattle.ledger.specs.Frames.{Frame, byType}
+use Rattle.ledger.specs.Calls as calls
+use Rattle.ledger.specs.Calls.{Effect, repeated, closed, afterNew, afterReading}
+use Rattle.ledger.specs.Shown.{asCounts, asLast, asEntry, asReading, asAnswer}
+use Rattle.ledger.proofs.CountAgreement.{count-new, count-again, count-heard, count-unread, count-refused}
+use Rattle.ledger.proofs.RowAgreement.{entries-updated, names-updated, row-names-update, row-names-fresh, place-listed}
+
+-- what a frame does to the link, by what it is
+abbrev pub linkOutcome : Frame → Last → link-counts.Counts → Outcome
+linkOutcome (frames.refused n) previous before = refusedFrame n previous before
+linkOutcome (frames.acknowledgement sequence) previous before = acknowledgementFrame sequence 0 previous before
+linkOutcome (frames.good sequence payload) previous before = dataFrame sequence payload previous before
+
+pub read-by-type : (found : content.Read) (previous : Last) (before : link-counts.Counts)
+    → readOutcome found previous before ≡ linkOutcome (byType found) previous before
+read-by-type (content.refused n) previous before = refl
+read-by-type (content.frame kind sequence payload) previous before =
+    cases (eqb kind dataType) (eqb kind acknowledgementType) (eqb (length payload) 0) refl refl refl
+  where
+    cases : (t u v : Bool) → eqb kind dataType ≡ t → eqb kind acknowledgementType ≡ u → eqb (length payload) 0 ≡ v
+        → readOutcome (content.frame kind sequence payload) previous before ≡ linkOutcome (byType (content.frame kind sequence payload)) previous before
+    cases true u v a b c = rw a
+    cases false true true a b c = rw (a, b, c)
+    cases false true false a b c = rw (a, b, c)
+    cases false false v a b c = rw (a, b)
+
+-- what board and entries have in common
+pub record Shows (names : List (List ℕ)) (es : List Entry) (board : Board) : Type 0 where
+  pub rows-show : entries board ≡ map asEntry es
+  pub named : map nameOf es ≡ names
+  pub in-rows : rowNames board ≡ rowNames (boardOf names)
+
+-- the result of a call and the ledger's effect agree
+pub record Effects (names : List (List ℕ)) (w : Walk) (result : Received) (reply packet : List ℕ) (e : Effect) : Type 0 where
+  pub answers : result .answer ≡ asAnswer names (e .answer)
+  pub replied : reply ≡ e .reply
+  pub handed : packet ≡ e .packet
+  pub counted : result .taken ≡ w .taken
+  pub content-is : result .display .link .content ≡ w .content
+  pub reader-is : result .display .link .reader ≡ w .reader
+  pub last-is : result .display .link .last ≡ asLast (e .ledger .sequence)
+  pub counts-are : result .display .link .counts ≡ asCounts (e .ledger .counts)
+  pub shows : Shows names (e .ledger .entries) (result .display .board)
+
+-- the names that the board watches are the ledger's
+names-shown : (es : List Entry) → map (λ (e : shown.Entry). e .name) (map asEntry es) ≡ map nameOf es
+names-shown [] = refl
+names-shown (e ∷ es) = ap (λ (l : List (List ℕ)). e .name ∷ l) (names-shown es)
+
+module _ (names : List (List ℕ)) (fit : Fits names) (w : Walk) (l : Ledger) (board : Board) (shows₀ : Shows names (l .entries) board) where
+  watched-is : watched board ≡ map nameOf (l .entries)
+  watched-is = sym (entry-names board) ∙ ap (map (λ (e : shown.Entry). e .name)) (shows₀ .rows-show) ∙ names-shown (l .entries)
+
+  abbrev outcome : Frame → Outcome
+  outcome f = linkOutcome f (asLast (l .sequence)) (asCounts (l .counts))
+
+  abbrev resultFor : Outcome → Received
+  resultFor o = resultOf (o .answer) board (callOf w o)
+
+  abbrev Agreed : Outcome → Effect → Type 0
+  Agreed o e = Effects names w (resultFor o) (o .reply) (o .packet) e
+
+  refused-agrees : (n : ℕ) → Agreed (outcome (frames.refused n)) (closed l (frames.refused n))
+  refused-agrees n =
+      record {
+        answers = refl;
+        replied = refl;
+        handed = refl;
+        counted = refl;
+        content-is = refl;
+        reader-is = refl;
+        last-is = refl;
+        counts-are = count-refused (l .counts) n;
+        shows = shows₀;
+      }
+
+  heard-agrees : (sequence : ℕ) → Agreed (outcome (frames.acknowledgement sequence)) (closed l (frames.acknowledgement sequence))
+  heard-agrees sequence =
+      record {
+        answers = refl;
+        replied = refl;
+        handed = refl;
+        counted = refl;
+        content-is = refl;
+        reader-is = refl;
+        last-is = refl;
+        counts-are = count-heard (l .counts);
+        shows = shows₀;
+      }
+
+  again-agrees : (sequence : ℕ) → Agreed (againFrame sequence (asLast (l .sequence)) (asCounts (l .counts))) (calls.repeatedFrame l sequence)
+  unfolding acknowledgement
+  again-agrees sequence =
+      record {
+        answers = refl;
+        replied = refl;
+        handed = refl;
+        counted = refl;
+        content-is = refl;
+        reader-is = refl;
+        last-is = refl;
+        counts-are = count-again (l .counts);
+        shows = shows₀;
+      }
+
+  -- a new packet, by what the board reads in it
+  module _ (sequence : ℕ) (payload : List ℕ) where
+    abbrev fresh : Outcome
+    fresh = newFrame sequence payload (asCounts (l .counts))
+
+    abbrev effectBy : Verdict → Effect
+    effectBy v =
+        record {
+          ledger = afterReading (afterNew l sequence) v;
+          answer = calls.new sequence payload v;
+          reply = calls.answerTo sequence;
+          packet = payload;
+        }
+
+    abbrev AgreedBy : declared-reading.Reading → Verdict → Type 0
+    AgreedBy r v =
+        Effects names w (takeReading (received (callOf w fresh)) (length (acknowledgement sequence)) (length payload) r) (acknowledgement sequence) payload (effectBy v)
+
+    unread-agrees : (n : ℕ) → AgreedBy (record { board = board; answer = board-says.Refused n }) (reading.refused n)
+    unfolding acknowledgement
+    unread-agrees n =
+        record {
+          answers = refl;
+          replied = refl;
+          handed = refl;
+          counted = refl;
+          content-is = refl;
+          reader-is = refl;
+          last-is = refl;
+          counts-are = ap (countOf event.Unread) (count-new (l .counts)) ∙ count-unread (afterNew l sequence .counts);
+          shows = shows₀;
+        }
+
+    end-agrees : AgreedBy (record { board = board; answer = board-says.EndMark }) reading.endMark
+    unfolding acknowledgement
+    end-agrees =
+        record {
+          answers = refl;
+          replied = refl;
+          handed = refl;
+          counted = refl;
+          content-is = refl;
+          reader-is = refl;
+          last-is = refl;
+          counts-are = count-new (l .counts);
+          shows = shows₀;
+        }
+
+    -- the row of an update is its name's place in the watch list
+    place-is : (name : List ℕ) → (t : There board name) → placeOf name names ≡ some (t .place)
+    place-is name t =
+        sym (place-listed name names (rowCount - length names) 0 (t .named))
+        ∙ ap (placeOf name) (sym (row-names-fresh names fit) ∙ sym (shows₀ .in-rows))
+        ∙ t .stands
+
+    update-agrees : (name : List ℕ) (value : ℤ) (t : There board name) → readingOf (watched board) payload ≡ reading.update name value
+        → AgreedBy (record { board = updateBoard (t .place) value board; answer = board-says.Updated (t .place) }) (reading.update name value)
+    unfolding acknowledgement entriesAfter
+    update-agrees name value t e =
+        let is = read-update board payload name value (t .place) e (t .stands) in
+        let after : entries (updateBoard (t .place) value board) ≡ updateEntries name value (entries board) =
+          sym (ap (λ (r : declared-reading.Reading). entries (r .board)) is)
+          ∙ read-entries board payload
+          ∙ ap (λ (v : Verdict). entriesAfter v (entries board)) e in
+        record {
+          answers = rw (place-is name t);
+          replied = refl;
+          handed = refl;
+          counted = refl;
+          content-is = refl;
+          reader-is = refl;
+          last-is = refl;
+          counts-are = count-new (l .counts);
+          shows =
+            record {
+              rows-show = after ∙ ap (updateEntries name value) (shows₀ .rows-show) ∙ entries-updated name value (l .entries);
+              named = names-updated name value (l .entries) ∙ shows₀ .named;
+              in-rows = row-names-update (t .place) value board ∙ shows₀ .in-rows;
+            };
+        }
+
+    new-agrees : Agreed fresh (calls.newFrame l sequence payload)
+    new-agrees = by-verdict (readingOf (map nameOf (l .entries)) payload) refl
+      where
+        by-row : (name : List ℕ) (value : ℤ) (t : There board name) → readingOf (watched board) payload ≡ reading.update name value
+            → readingOf (map nameOf (l .entries)) payload ≡ reading.update name value → Agreed fresh (calls.newFrame l sequence payload)
+        by-row name value t watching e =
+            rw (read-update board payload name value (t .place) watching (t .stands), e) (update-agrees name value t watching)
+
+        by-verdict : (v : Verdict) → readingOf (map nameOf (l .entries)) payload ≡ v → Agreed fresh (calls.newFrame l sequence payload)
+        by-verdict (reading.refused n) e =
+            let watching = ap (λ (ns : List (List ℕ)). readingOf ns payload) watched-is ∙ e in
+            rw (read-refused board payload n watching, e) (unread-agrees n)
+        by-verdict reading.endMark e =
+            let watching = ap (λ (ns : List (List ℕ)). readingOf ns payload) watched-is ∙ e in
+            rw (read-end board payload watching, e) end-agrees
+        by-verdict (reading.update name value) e =
+            let watching = ap (λ (ns : List (List ℕ)). readingOf ns payload) watched-is ∙ e in
+            by-row name value (update-there board payload name value watching) watching e
+
+  same-repeats : (last : Option ℕ) (sequence : ℕ) → repeats (asLast last) sequence ≡ repeated last sequence
+  same-repeats none sequence = refl
+  same-repeats (some before) sequence = refl
+
+  -- a frame that was closed
+  pub frame-agrees : (f : Frame) → Agreed (outcome f) (closed l f)
+  unfolding dataFrame
+  frame-agrees (frames.refused n) = refused-agrees n
+  frame-agrees (frames.acknowledgement sequence) = heard-agrees sequence
+  frame-agrees (frames.good sequence payload) =
+      rw (same-repeats (l .sequence) sequence) (by-last (repeated (l .sequence) sequence))
+    where
+      by-last : (t : Bool)
+          → Agreed (cond t (againFrame sequence (asLast (l .sequence)) (asCounts (l .counts))) (newFrame sequence payload (asCounts (l .counts))))
+            (cond t (calls.repeatedFrame l sequence) (calls.newFrame l sequence payload))
+      by-last true = again-agrees sequence
+      by-last false = new-agrees sequence payload
+
+  -- a call that closed none
+  pub nothing-agrees : (o : Outcome)
+      → o ≡ record { last = asLast (l .sequence); counts = asCounts (l .counts); answer = link-says.Nothing; reply = []; packet = [] }
+      → Agreed o (record { ledger = l; answer = calls.nothing; reply = []; packet = [] })
+  nothing-agrees o e =
+      rw e
+      (record {
+        answers = refl;
+        replied = refl;
+        handed = refl;
+        counted = refl;
+        content-is = refl;
+        reader-is = refl;
+        last-is = refl;
+        counts-are = refl;
+        shows = shows₀;
+      })

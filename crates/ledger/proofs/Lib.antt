@@ -1,0 +1,5 @@
+pub mod RunAgreement
+pub mod CountAgreement
+pub mod RowAgreement
+pub mod FrameAgreement
+pub mod StepAgreement

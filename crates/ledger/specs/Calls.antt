@@ -1,0 +1,162 @@
+-- 01, The ledger: what a call does to it, and what it answers.
+use Prim.Native.Nat.{ℕ, suc}
+use mathlib.Core.Bool.{Bool, false, cond, _||_}
+use mathlib.Core.List.{List, [], _∷_, map}
+use mathlib.Core.Option.{Option, some, none}
+use lib.Dec.{eqb, ltb}
+use lib.ListN.{length}
+use Rattle.refusals.specs.Numbers.{shortOutput}
+use Rattle.slices.specs.Put.{putAt}
+use Rattle.frame.specs.Writing as writing
+use Rattle.board.specs.Reading as reading
+use Rattle.board.specs.Reading.{Verdict, readingOf}
+use Rattle.ledger.specs.Ledger.{Counts, Entry, Ledger, nameOf, moreOf, updated, olderEntry}
+use Rattle.ledger.specs.Frames as frames
+use Rattle.ledger.specs.Frames.{Frame, Taken, taken, frameOf}
+
+-- a piece with its two buffers, or a tick
+pub data Call : Type 0 where
+  piece : List ℕ → List ℕ → List ℕ → Call
+  tick : Call
+
+-- what a piece is answered: no frame; a refusal; the sequence heard; a data frame repeated at once; or a new one, with what the
+-- board reads in its payload
+pub data Answer : Type 0 where
+  nothing : Answer
+  refused : ℕ → Answer
+  heard : ℕ → Answer
+  again : ℕ → Answer
+  new : ℕ → List ℕ → Verdict → Answer
+
+-- what a call gives: the bytes taken, the answer and the bytes left in the two buffers; or nothing, of a tick
+pub data Given : Type 0 where
+  took : ℕ → Answer → List ℕ → List ℕ → Given
+  ticked : Given
+
+-- what a frame does: the ledger after it, the answer, and the bytes put at the start of the reply and of the packet buffer
+pub record Effect : Type 0 where
+  pub ledger : Ledger
+  pub answer : Answer
+  pub reply : List ℕ
+  pub packet : List ℕ
+
+abbrev pub withCounts : Ledger → Counts → Ledger
+withCounts l counts = record { run = l .run; sequence = l .sequence; counts = counts; entries = l .entries }
+
+-- refused: its count plus 1
+abbrev pub refusedFrame : Ledger → ℕ → Effect
+refusedFrame l n =
+    record {
+      ledger = withCounts l (record { new = l .counts .new; again = l .counts .again; heard = l .counts .heard; unread = l .counts .unread; refused = moreOf n (l .counts .refused) });
+      answer = refused n;
+      reply = [];
+      packet = [];
+    }
+
+-- type 02: heard plus 1
+abbrev pub heardFrame : Ledger → ℕ → Effect
+heardFrame l sequence =
+    record {
+      ledger = withCounts l (record { new = l .counts .new; again = l .counts .again; heard = suc (l .counts .heard); unread = l .counts .unread; refused = l .counts .refused });
+      answer = heard sequence;
+      reply = [];
+      packet = [];
+    }
+
+-- a good data frame is answered by type 02, the same sequence, no payload
+abbrev pub answerTo : ℕ → List ℕ
+answerTo sequence = writing.frameOf 0x02 sequence []
+
+-- with the last sequence, not 0, it is repeated at once: again plus 1
+abbrev pub repeated : Option ℕ → ℕ → Bool
+repeated none sequence = false
+repeated (some before) sequence = cond (eqb sequence 0) false (eqb sequence before)
+
+abbrev pub repeatedFrame : Ledger → ℕ → Effect
+repeatedFrame l sequence =
+    record {
+      ledger = withCounts l (record { new = l .counts .new; again = suc (l .counts .again); heard = l .counts .heard; unread = l .counts .unread; refused = l .counts .refused });
+      answer = again sequence;
+      reply = answerTo sequence;
+      packet = [];
+    }
+
+-- refused by the board, unread plus 1; end mark, nothing; all else is an accepted update, 0 ticks old
+abbrev pub afterReading : Ledger → Verdict → Ledger
+afterReading l (reading.refused n) =
+    withCounts l (record { new = l .counts .new; again = l .counts .again; heard = l .counts .heard; unread = suc (l .counts .unread); refused = l .counts .refused })
+afterReading l reading.endMark = l
+afterReading l (reading.update name value) =
+    record { run = l .run; sequence = l .sequence; counts = l .counts; entries = updated name value (l .entries) }
+
+-- else new plus 1, its sequence is the last
+abbrev pub afterNew : Ledger → ℕ → Ledger
+afterNew l sequence =
+    record {
+      run = l .run;
+      sequence = some sequence;
+      counts = record { new = suc (l .counts .new); again = l .counts .again; heard = l .counts .heard; unread = l .counts .unread; refused = l .counts .refused };
+      entries = l .entries;
+    }
+
+-- its payload is handed up and read at once by the board rules
+abbrev pub readingBy : Ledger → List ℕ → Verdict
+readingBy l payload = readingOf (map nameOf (l .entries)) payload
+
+abbrev pub newFrame : Ledger → ℕ → List ℕ → Effect
+newFrame l sequence payload =
+    record {
+      ledger = afterReading (afterNew l sequence) (readingBy l payload);
+      answer = new sequence payload (readingBy l payload);
+      reply = answerTo sequence;
+      packet = payload;
+    }
+
+abbrev pub closed : Ledger → Frame → Effect
+closed l (frames.refused n) = refusedFrame l n
+closed l (frames.acknowledgement sequence) = heardFrame l sequence
+closed l (frames.good sequence payload) =
+    cond (repeated (l .sequence) sequence) (repeatedFrame l sequence) (newFrame l sequence payload)
+
+-- a piece with the frame that it closed, if it closed one
+abbrev pub effectOf : Ledger → Option (List ℕ) → Effect
+effectOf l none = record { ledger = l; answer = nothing; reply = []; packet = [] }
+effectOf l (some run) = closed l (frameOf run)
+
+abbrev pub withRun : Ledger → Option (List ℕ) → Ledger
+withRun l run = record { run = run; sequence = l .sequence; counts = l .counts; entries = l .entries }
+
+-- a step: what is given, and the ledger after it
+pub record Step : Type 0 where
+  pub given : Given
+  pub ledger : Ledger
+
+abbrev pub pieceStep : Ledger → Taken → List ℕ → List ℕ → Step
+pieceStep l t reply packet =
+    let effect = effectOf (withRun l (t .run)) (t .frame) in
+    record {
+      given = took (t .count) (effect .answer) (putAt reply 0 (effect .reply)) (putAt packet 0 (effect .packet));
+      ledger = effect .ledger;
+    }
+
+-- short buffer: refusal 7, 0 taken, no change
+abbrev pub shortStep : Ledger → List ℕ → List ℕ → Step
+shortStep l reply packet = record { given = took 0 (refused shortOutput) reply packet; ledger = l }
+
+unfoldable pub step : Ledger → Call → Step
+step l (piece bytes reply packet) =
+    cond (ltb (length reply) 9 || ltb (length packet) 383) (shortStep l reply packet) (pieceStep l (taken (l .run) bytes 0) reply packet)
+step l tick =
+    record {
+      given = ticked;
+      ledger = record { run = l .run; sequence = l .sequence; counts = l .counts; entries = map olderEntry (l .entries) };
+    }
+
+-- the whole list of calls: all that is given, in order, and the ledger afterwards
+unfoldable pub given : Ledger → List Call → List Given
+given l [] = []
+given l (c ∷ cs) = step l c .given ∷ given (step l c .ledger) cs
+
+unfoldable pub after : Ledger → List Call → Ledger
+after l [] = l
+after l (c ∷ cs) = after (step l c .ledger) cs

@@ -1,0 +1,85 @@
+-- 01, The ledger: what it holds. It is fed only the watch list, the pieces, their buffers and the ticks.
+use Prim.Native.Nat.{ℕ, zero, suc, _+_}
+use mathlib.Core.Bool.{cond}
+use mathlib.Core.List.{List, [], _∷_, map}
+use mathlib.Core.Option.{Option, some, none}
+use lib.Dec.{ltb}
+use lib.IntN.{ℤ}
+use lib.ListN.{replicate}
+use Rattle.slices.specs.Same.{sameBytes}
+
+-- the ten counts: new, again, heard, unread and refusals 1 to 6. They have no bound.
+pub record Counts : Type 0 where
+  pub new : ℕ
+  pub again : ℕ
+  pub heard : ℕ
+  pub unread : ℕ
+  pub refused : List ℕ
+
+-- the value of a name's last accepted update, and the ticks since
+pub record Update : Type 0 where
+  pub value : ℤ
+  pub ticks : ℕ
+
+-- a watched name with its last update, if there was one
+pub record Entry : Type 0 where
+  pub name : List ℕ
+  pub last : Option Update
+
+-- the run (sent bytes since the last flag), the last sequence, the counts, and the entries
+pub record Ledger : Type 0 where
+  pub run : Option (List ℕ)
+  pub sequence : Option ℕ
+  pub counts : Counts
+  pub entries : List Entry
+
+-- at first the counts are 0 and the rest is none
+abbrev pub noCounts : Counts
+noCounts = record { new = 0; again = 0; heard = 0; unread = 0; refused = replicate 6 0 }
+
+abbrev pub unheard : List ℕ → Entry
+unheard name = record { name = name; last = none }
+
+abbrev pub start : List (List ℕ) → Ledger
+start names = record { run = none; sequence = none; counts = noCounts; entries = map unheard names }
+
+abbrev pub nameOf : Entry → List ℕ
+nameOf entry = entry .name
+
+-- one more at a place
+unfoldable pub moreAt : ℕ → List ℕ → List ℕ
+moreAt n [] = []
+moreAt zero (count ∷ counts) = suc count ∷ counts
+moreAt (suc n) (count ∷ counts) = count ∷ moreAt n counts
+
+-- one more of refusal n: the first place is that of refusal 1, and there is no refusal 0
+abbrev pub moreOf : ℕ → List ℕ → List ℕ
+moreOf zero counts = counts
+moreOf (suc n) counts = moreAt n counts
+
+-- an accepted update of a name, 0 ticks old
+unfoldable pub updated : List ℕ → ℤ → List Entry → List Entry
+updated name value [] = []
+updated name value (entry ∷ entries) =
+    cond (sameBytes (entry .name) name)
+    (record { name = entry .name; last = some (record { value = value; ticks = 0 }) } ∷ entries)
+    (entry ∷ updated name value entries)
+
+-- a tick is one more on each name's ticks
+abbrev pub older : Option Update → Option Update
+older none = none
+older (some update) = some (record { value = update .value; ticks = suc (update .ticks) })
+
+abbrev pub olderEntry : Entry → Entry
+olderEntry entry = record { name = entry .name; last = older (entry .last) }
+
+-- what a row shows
+pub data Row : Type 0 where
+  never : Row
+  current : ℤ → ℕ → Row
+  silent : Row
+
+-- under 30 ticks a name is current, with them as age; from 30 silent; without update never
+abbrev pub rowOf : Option Update → Row
+rowOf none = never
+rowOf (some update) = cond (ltb (update .ticks) 30) (current (update .value) (update .ticks)) silent

@@ -1,0 +1,4 @@
+pub mod Ledger
+pub mod Frames
+pub mod Calls
+pub mod Shown

@@ -1,0 +1,74 @@
+-- How the code says what the ledger says: each count modulo 65,536, the rows as they are shown, the answers as enums.
+use Prim.Native.Nat.{ℕ, _%_}
+use mathlib.Core.Path.{_≡_}
+use mathlib.Core.List.{List, [], _∷_, map}
+use mathlib.Core.Option.{Option, some, none}
+use lib.ListN.{length}
+use Rattle.rows.specs.Entries as shown
+use Rattle.rows.specs.Names.{placeOf}
+use Rattle.rows.specs.declared.State.{State}
+use Rattle.rows.specs.declared.State.the-variants.{Never, Current, Silent}
+use Rattle.board.specs.Reading as reading
+use Rattle.board.specs.Reading.{Verdict}
+use Rattle.board.specs.declared.reading.Answer as board-answer
+use Rattle.link.specs.declared.counts.Counts as link-counts
+use Rattle.link.specs.declared.receiver.Last.{Last}
+use Rattle.link.specs.declared.receiver.Last.the-variants.{None, Sequence}
+use Rattle.display.specs.declared.Answer as display-answer
+use Rattle.ledger.specs.Ledger.{Counts, Entry, Row, never, current, silent, rowOf}
+use Rattle.ledger.specs.Calls as calls
+use Rattle.ledger.specs.Calls.{answerTo}
+
+-- 01, The shape we want: the value equals the history's count modulo 65,536
+abbrev pub wrapped : ℕ → ℕ
+wrapped n = n % 65536
+
+abbrev pub asCounts : Counts → link-counts.Counts
+asCounts c =
+    record {
+      new = wrapped (c .new);
+      again = wrapped (c .again);
+      heard = wrapped (c .heard);
+      unread = wrapped (c .unread);
+      refused = map wrapped (c .refused);
+    }
+
+abbrev pub asLast : Option ℕ → Last
+asLast none = None
+asLast (some sequence) = Sequence sequence
+
+abbrev pub asState : Row → State
+asState never = Never
+asState (current value age) = Current value age
+asState silent = Silent
+
+-- a name with what its row shows
+abbrev pub asEntry : Entry → shown.Entry
+asEntry entry = record { name = entry .name; state = asState (rowOf (entry .last)) }
+
+-- the row of an update is its name's place in the watch list
+abbrev pub asPlace : Option ℕ → board-answer.Answer
+asPlace (some place) = board-answer.the-variants.Updated place
+asPlace none = board-answer.the-variants.EndMark
+
+abbrev pub asReading : List (List ℕ) → Verdict → board-answer.Answer
+asReading names (reading.refused n) = board-answer.the-variants.Refused n
+asReading names reading.endMark = board-answer.the-variants.EndMark
+asReading names (reading.update name value) = asPlace (placeOf name names)
+
+abbrev pub asAnswer : List (List ℕ) → calls.Answer → display-answer.Answer
+asAnswer names calls.nothing = display-answer.the-variants.Nothing
+asAnswer names (calls.refused n) = display-answer.the-variants.Refused n
+asAnswer names (calls.heard sequence) = display-answer.the-variants.Heard sequence
+asAnswer names (calls.again sequence) = display-answer.the-variants.Again (length (answerTo sequence))
+asAnswer names (calls.new sequence payload verdict) =
+    display-answer.the-variants.New (length (answerTo sequence)) (length payload) (asReading names verdict)
+
+-- what a call left: the bytes taken, the answer, and the bytes in the two buffers; or nothing, of a tick
+pub data Left : Type 0 where
+  took : ℕ → display-answer.Answer → List ℕ → List ℕ → Left
+  ticked : Left
+
+abbrev pub asLeft : List (List ℕ) → calls.Given → Left
+asLeft names (calls.took n answer reply packet) = took n (asAnswer names answer) reply packet
+asLeft names calls.ticked = ticked

@@ -199,9 +199,9 @@ module _ (names : List (List ℕ)) (fit : Fits names) (w : Walk) (l : Ledger) (b
     update-agrees name value t e =
         let is = read-update board payload name value (t .place) e (t .stands) in
         let after : entries (updateBoard (t .place) value board) ≡ updateEntries name value (entries board) =
-          sym (ap (λ (r : declared-reading.Reading). entries (r .board)) is)
-          ∙ read-entries board payload
-          ∙ ap (λ (v : Verdict). entriesAfter v (entries board)) e in
+        sym (ap (λ (r : declared-reading.Reading). entries (r .board)) is)
+        ∙ read-entries board payload
+        ∙ ap (λ (v : Verdict). entriesAfter v (entries board)) e in
         record {
           answers = rw (place-is name t);
           replied = refl;
@@ -212,11 +212,11 @@ module _ (names : List (List ℕ)) (fit : Fits names) (w : Walk) (l : Ledger) (b
           last-is = refl;
           counts-are = count-new (l .counts);
           shows =
-            record {
-              rows-show = after ∙ ap (updateEntries name value) (shows₀ .rows-show) ∙ entries-updated name value (l .entries);
-              named = names-updated name value (l .entries) ∙ shows₀ .named;
-              in-rows = row-names-update (t .place) value board ∙ shows₀ .in-rows;
-            };
+              record {
+                rows-show = after ∙ ap (updateEntries name value) (shows₀ .rows-show) ∙ entries-updated name value (l .entries);
+                named = names-updated name value (l .entries) ∙ shows₀ .named;
+                in-rows = row-names-update (t .place) value board ∙ shows₀ .in-rows;
+              };
         }
 
     new-agrees : Agreed fresh (calls.newFrame l sequence payload)
@@ -252,7 +252,7 @@ module _ (names : List (List ℕ)) (fit : Fits names) (w : Walk) (l : Ledger) (b
     where
       by-last : (t : Bool)
           → Agreed (cond t (againFrame sequence (asLast (l .sequence)) (asCounts (l .counts))) (newFrame sequence payload (asCounts (l .counts))))
-            (cond t (calls.repeatedFrame l sequence) (calls.newFrame l sequence payload))
+          (cond t (calls.repeatedFrame l sequence) (calls.newFrame l sequence payload))
       by-last true = again-agrees sequence
       by-last false = new-agrees sequence payload
 

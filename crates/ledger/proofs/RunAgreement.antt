@@ -141,8 +141,8 @@ module _ (array : List ℕ) (reader : Reader) (b : ℕ) (bs : List ℕ) (n : ℕ
           closing array reader (some (x ∷ xs)) b bs n (x ∷ xs) end (turn-at-flag (some (x ∷ xs)) b flag)
           (turn-flag array reader b flag ∙ ap (flagTurn array) e ∙ f)
           (λ previous before.
-            ap (λ (end₁ : Ended). closeOf end₁ array previous before) (sym e)
-            ∙ run-closes array reader whole within x xs standing previous before)
+          ap (λ (end₁ : Ended). closeOf end₁ array previous before) (sym e)
+          ∙ run-closes array reader whole within x xs standing previous before)
 
       by-end : (end : Ended) → endedBy reader ≡ end → Turned array reader (some (x ∷ xs)) b bs n
       by-end ends.Nothing e =

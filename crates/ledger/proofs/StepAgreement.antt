@@ -117,13 +117,13 @@ module _ (names : List (List ℕ)) (fit : Fits names) (l : Ledger) (d : Display)
       (record {
         gives = same-left (e .counted ∙ both .counted) (e .answers) (ap (putAt reply 0) (e .replied)) (ap (putAt packet 0) (e .handed));
         agrees =
-          record {
-            ours = record { whole = rw (e .content-is) whole; within = rw (e .reader-is) within };
-            standing = rw (run, e .content-is, e .reader-is) standing;
-            last-is = e .last-is;
-            counts-are = e .counts-are;
-            shows = e .shows;
-          };
+            record {
+              ours = record { whole = rw (e .content-is) whole; within = rw (e .reader-is) within };
+              standing = rw (run, e .content-is, e .reader-is) standing;
+              last-is = e .last-is;
+              counts-are = e .counts-are;
+              shows = e .shows;
+            };
       })
 
   short-agrees : (result : Received) (reply₁ packet₁ : List ℕ) → DisplaysAs (outcomeOf (d .board) (shortCall (d .link))) reply packet result reply₁ packet₁
@@ -172,16 +172,16 @@ tick-agrees names l d a =
     record {
       gives = refl;
       agrees =
-        record {
-          ours = a .ours;
-          standing = a .standing;
-          last-is = a .last-is;
-          counts-are = a .counts-are;
-          shows =
-            record {
-              rows-show = entries-tick (d .board) ∙ ap (map tickEntry) (a .shows .rows-show) ∙ entries-older (l .entries);
-              named = names-older (l .entries) ∙ a .shows .named;
-              in-rows = row-names-tick (d .board) ∙ a .shows .in-rows;
-            };
-        };
+          record {
+            ours = a .ours;
+            standing = a .standing;
+            last-is = a .last-is;
+            counts-are = a .counts-are;
+            shows =
+                record {
+                  rows-show = entries-tick (d .board) ∙ ap (map tickEntry) (a .shows .rows-show) ∙ entries-older (l .entries);
+                  named = names-older (l .entries) ∙ a .shows .named;
+                  in-rows = row-names-tick (d .board) ∙ a .shows .in-rows;
+                };
+          };
     }

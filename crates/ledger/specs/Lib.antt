@@ -2,3 +2,4 @@ pub mod Ledger
 pub mod Frames
 pub mod Calls
 pub mod Shown
+pub mod History

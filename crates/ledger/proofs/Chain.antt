@@ -1,0 +1,127 @@
+-- A chain of calls: each is given what the last one left, and meets the contract of the function that runs. The contracts are those
+-- that the toolchain reads off the source (`Learnt`, `Asked`), so a contract that says less breaks what is built on this.
+use mathlib.Core.Path.{_≡_, refl}
+use mathlib.Core.List.{List, [], _∷_}
+use mathlib.Core.Option.{some}
+use Prim.Native.Nat.{ℕ}
+use lib.ListN.{length}
+use denote.Ref.{RefT}
+use contract.Lifetimes.{Lfts}
+use Rattle.slices.specs.Put.{putAt}
+use Rattle.rows.specs.Rows.{boardOf}
+use Rattle.board.specs.WatchList.{watchNames, asWatched}
+use Rattle.board.specs.declared.list.Listed.the-variants.{Accepted}
+use Rattle.board.specs.declared.list.Watched.{Watched}
+use Rattle.board.proofs.watch_list.Reads as watch-list
+use Rattle.display.specs.Display as display
+use Rattle.display.specs.Display.{receivePiece, DisplaysAs, tickDisplay}
+use Rattle.display.specs.declared.Display.{Display}
+use Rattle.display.specs.declared.Received.{Received}
+use Rattle.display.proofs.receive.Reads as receive
+use Rattle.display.proofs.start.Reads as start
+use Rattle.display.proofs.tick.Reads as tick
+use Rattle.ledger.specs.Calls as calls
+use Rattle.ledger.specs.Calls.{Call}
+use Rattle.ledger.specs.Shown.{Left, took, ticked}
+
+-- one call of `display::receive`: the slices lent hold the piece and the buffers as they were, and at exit the buffers as they are
+pub record Receives (d : Display) (bytes reply packet : List ℕ) (result : Received) (reply₁ packet₁ : List ℕ) : Type 0 where
+  pub lifetimes : Lfts 3
+  pub lent-piece : RefT (List ℕ)
+  pub lent-reply : RefT (List ℕ)
+  pub lent-packet : RefT (List ℕ)
+  pub left-reply : RefT (List ℕ)
+  pub left-packet : RefT (List ℕ)
+  pub piece-is : lent-piece .now ≡ bytes
+  pub reply-was : lent-reply .now ≡ reply
+  pub packet-was : lent-packet .now ≡ packet
+  pub reply-is : left-reply .now ≡ reply₁
+  pub packet-is : left-packet .now ≡ packet₁
+  pub learnt :
+      receive.Learnt lifetimes (d, (lent-piece, (lent-reply, (lent-packet, tt)))) result (d, (lent-piece, (left-reply, (left-packet, tt))))
+
+-- one call of `display::tick`
+abbrev pub Ticks : Display → Display → Type 0
+Ticks d d₁ = tick.Learnt tt (d, tt) d₁ (d, tt)
+
+-- a fresh start: `board::watch_list` accepted the list, and `display::start` was given its board
+pub record Begins (fields : List ℕ) (d : Display) : Type 0 where
+  pub lifetimes : Lfts 1
+  pub lent-list : RefT (List ℕ)
+  pub list-is : lent-list .now ≡ fields
+  pub watched : Watched
+  pub listed : watch-list.Learnt lifetimes (lent-list, tt) watched (lent-list, tt)
+  pub accepted : watched .answer ≡ Accepted
+  pub started : start.Learnt tt (watched .board, tt) d (watched .board, tt)
+
+pub data Chain : Display → List Call → List Left → Display → Type 0 where
+  done : {d : Display} → Chain d [] [] d
+  receives : {d d₁ : Display} {bytes reply packet reply₁ packet₁ : List ℕ} {result : Received} {cs : List Call} {left : List Left}
+      → Receives d bytes reply packet result reply₁ packet₁ → Chain (result .display) cs left d₁
+      → Chain d (calls.piece bytes reply packet ∷ cs) (took (result .taken) (result .answer) reply₁ packet₁ ∷ left) d₁
+  ticks : {d d₁ d₂ : Display} {cs : List Call} {left : List Left} → Ticks d d₁ → Chain d₁ cs left d₂ → Chain d (calls.tick ∷ cs) (ticked ∷ left) d₂
+
+-- what such a call did, by the contract
+pub received : {d : Display} {bytes reply packet reply₁ packet₁ : List ℕ} {result : Received} → Receives d bytes reply packet result reply₁ packet₁
+    → DisplaysAs (receivePiece d bytes (length reply) (length packet)) reply packet result reply₁ packet₁
+received r = rw (r .piece-is, r .reply-was, r .packet-was, r .reply-is, r .packet-is) at (r .learnt)
+
+-- The theorem is about something: from every fresh start there is a chain for every list of calls.
+abbrev slice : List ℕ → RefT (List ℕ)
+slice bytes = record { ptr = (0, 0); name = 0; now = bytes }
+
+pub record Runs (d : Display) (cs : List Call) : Type 0 where
+  pub left : List Left
+  pub end : Display
+  pub chain : Chain d cs left end
+
+received-by : (d : Display) (bytes reply packet : List ℕ)
+    → Receives d bytes reply packet (receivePiece d bytes (length reply) (length packet) .result)
+    (putAt reply 0 (receivePiece d bytes (length reply) (length packet) .reply))
+    (putAt packet 0 (receivePiece d bytes (length reply) (length packet) .packet))
+received-by d bytes reply packet =
+    let outcome = receivePiece d bytes (length reply) (length packet) in
+    record {
+      lifetimes = ([], ([], ([], tt)));
+      lent-piece = slice bytes;
+      lent-reply = slice reply;
+      lent-packet = slice packet;
+      left-reply = slice (putAt reply 0 (outcome .reply));
+      left-packet = slice (putAt packet 0 (outcome .packet));
+      piece-is = refl;
+      reply-was = refl;
+      packet-was = refl;
+      reply-is = refl;
+      packet-is = refl;
+      learnt = record { answers = refl; replied = refl; handed-out = refl };
+    }
+
+pub every-list-runs : (d : Display) (cs : List Call) → Runs d cs
+every-list-runs d [] = record { left = []; end = d; chain = done }
+every-list-runs d (calls.piece bytes reply packet ∷ cs) =
+    let first = received-by d bytes reply packet in
+    let rest = every-list-runs (receivePiece d bytes (length reply) (length packet) .result .display) cs in
+    record { left = _ ∷ rest .left; end = rest .end; chain = receives first (rest .chain) }
+every-list-runs d (calls.tick ∷ cs) =
+    let rest = every-list-runs (tickDisplay d) cs in
+    record { left = ticked ∷ rest .left; end = rest .end; chain = ticks refl (rest .chain) }
+
+pub every-list-begins : (fields : List ℕ) (names : List (List ℕ)) → watchNames fields ≡ some names → Begins fields (display.fresh (boardOf names))
+every-list-begins fields names e =
+    record {
+      lifetimes = ([], tt);
+      lent-list = slice fields;
+      list-is = refl;
+      watched = asWatched (some names);
+      listed = rw e;
+      accepted = refl;
+      started = refl;
+    }
+
+-- Nothing is asked before the next call, whatever came before it.
+pub next-piece : (d : Display) (lifetimes : Lfts 3) (lent-piece lent-reply lent-packet : RefT (List ℕ))
+    → receive.Asked lifetimes (d, (lent-piece, (lent-reply, (lent-packet, tt))))
+next-piece d lifetimes lent-piece lent-reply lent-packet = tt
+
+pub next-tick : (d : Display) → tick.Asked tt (d, tt)
+next-tick d = tt

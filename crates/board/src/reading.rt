@@ -123,8 +123,6 @@ fn read_update(board: Board, packet: &[u8]) -> Reading
 fn refused(board: Board, number: u8) -> Reading
     ensures { λ r. ⌜ r ≡ refusedWith board number ⌝ }
 {
-    Reading {
-        board,
-        answer: Answer::Refused(number),
-    }
+    let answer = Answer::Refused(number);
+    Reading { board, answer }
 }

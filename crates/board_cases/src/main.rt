@@ -15,6 +15,20 @@ fn main() {
     ages();
 }
 
+fn values() {
+    known_values();
+    ends_of_the_range();
+    numbers_by_length();
+    booleans();
+}
+
+fn lists() {
+    good_lists();
+    long_names();
+    repeated_names();
+    broken_lists();
+}
+
 fn text(s: &[u8]) {
     io::write_all(STDOUT_FILENO, s);
 }
@@ -115,19 +129,28 @@ fn ticked(board: Board, ticks: u32) -> Board {
     next
 }
 
-fn values() {
+fn known_values() {
     show_value(b"02 02 ff 38", 0x02, b"\xff8");
     show_value(b"02 01 80", 0x02, b"\x80");
     show_value(b"16 04 00 00 26 90", 0x16, b"\x00\x00&\x90");
     show_value(b"02 03 00 00 01", 0x02, b"\x00\x00\x01");
+}
+
+fn ends_of_the_range() {
     show_value(b"least", 0x02, b"\x80\x00\x00\x00\x00\x00\x00\x00");
     show_value(b"greatest", 0x16, b"\x7f\xff\xff\xff\xff\xff\xff\xff");
     show_value(b"minus one", 0x02, b"\xff\xff\xff\xff\xff\xff\xff\xff");
     show_value(b"02 02 7f ff", 0x02, b"\x7f\xff");
+}
+
+fn numbers_by_length() {
     show_value(b"02 02 80 00", 0x02, b"\x80\x00");
     show_value(b"02 04 80 00 00 00", 0x02, b"\x80\x00\x00\x00");
     show_value(b"no bytes", 0x02, b"");
     show_value(b"nine bytes", 0x02, b"\x00\x00\x00\x00\x00\x00\x00\x00\x00");
+}
+
+fn booleans() {
     show_value(b"Boolean 0", 0x0f, b"\x00");
     show_value(b"Boolean 1", 0x0f, b"\x01");
     show_value(b"Boolean 2", 0x0f, b"\x02");
@@ -135,7 +158,7 @@ fn values() {
     show_value(b"string", 0x03, b"1");
 }
 
-fn lists() {
+fn good_lists() {
     show_list(b"no names", b"");
     show_list(b"two names", b"\x01\x00\x02h1\x01\x00\x02h2");
     show_list(
@@ -146,11 +169,20 @@ fn lists() {
         b"17 names",
         b"\x01\x00\x02h1\x01\x00\x02h2\x01\x00\x02h3\x01\x00\x02h4\x01\x00\x02h5\x01\x00\x02h6\x01\x00\x02h7\x01\x00\x02h8\x01\x00\x02h9\x01\x00\x03h10\x01\x00\x03h11\x01\x00\x03h12\x01\x00\x03h13\x01\x00\x03h14\x01\x00\x03h15\x01\x00\x03h16\x01\x00\x03h17",
     );
+}
+
+fn long_names() {
     show_list(b"27 bytes", b"\x01\x00\x1baaaaaaaaaaaaaaaaaaaaaaaaaaz");
     show_list(b"28 bytes", b"\x01\x00\x1caaaaaaaaaaaaaaaaaaaaaaaaaaaz");
+}
+
+fn repeated_names() {
     show_list(b"twice", b"\x01\x00\x02h1\x01\x00\x02h2\x01\x00\x02h1");
     show_list(b"case counts", b"\x01\x00\x02h1\x01\x00\x02H1");
     show_list(b"digit first", b"\x01\x00\x021h");
+}
+
+fn broken_lists() {
     show_list(b"another tag", b"\x01\x00\x02h1\x02\x00\x02h2");
     show_list(b"cut value", b"\x01\x00\x02h1\x01\x00\x02h");
     show_list(b"cut length", b"\x01\x00\x02h1\x01\x00");
@@ -160,12 +192,28 @@ fn lists() {
 fn readings() {
     let watched = board::watch_list(b"\x01\x00\x02h1\x01\x00\x02h2");
     let mut board = watched.board;
+    board = updates(board);
+    board = refused_packets(board);
+    board = other_packets(board);
+    board = refused_names(board);
+    board = refused_values(board);
+    board = unwatched_names(board);
+    board = passed_over(board);
+}
+
+fn updates(start: Board) -> Board {
+    let mut board = start;
     board = show_reading(
         b"case 6",
         board,
         b"\x01\x03\x00\x00\x01\x02h1\x16\x04\x00\x00\x0dz",
     );
     board = show_reading(b"-200", board, b"\x01\x03\x00\x00\x01\x02h2\x02\x02\xff8");
+    board
+}
+
+fn refused_packets(start: Board) -> Board {
+    let mut board = start;
     board = show_reading(b"9", board, b"\x01\x03\x00");
     board = show_reading(b"9 by its first byte", board, b"\x02\x03\x00\x00");
     board = show_reading(b"10", board, b"\x01\x03\x00\x00\x01\x02h");
@@ -175,7 +223,17 @@ fn readings() {
         b"\x01\x03\x00\x00\x14\x01x",
     );
     board = show_reading(b"11", board, b"\x01\x0b\x00\x00\x01\x02h1\x02\x01\x01");
+    board
+}
+
+fn other_packets(start: Board) -> Board {
+    let mut board = start;
     board = show_reading(b"end mark", board, b"\x01\x03\x00\x00\x14\x00");
+    board
+}
+
+fn refused_names(start: Board) -> Board {
+    let mut board = start;
     board = show_reading(b"12 without a Name", board, b"\x01\x03\x00\x00\x02\x01\x01");
     board = show_reading(
         b"12 by two Names",
@@ -187,6 +245,11 @@ fn readings() {
         board,
         b"\x01\x03\x00\x00\x01\x021h\x02\x01\x01",
     );
+    board
+}
+
+fn refused_values(start: Board) -> Board {
+    let mut board = start;
     board = show_reading(
         b"13 without a value",
         board,
@@ -202,25 +265,48 @@ fn readings() {
         board,
         b"\x01\x03\x00\x00\x01\x02h1\x03\x011\x02\x01\x01",
     );
+    board
+}
+
+fn unwatched_names(start: Board) -> Board {
+    let mut board = start;
     board = show_reading(b"14", board, b"\x01\x03\x00\x00\x01\x02h3\x02\x01\x01");
     board = show_reading(
         b"14 by a part of a name",
         board,
         b"\x01\x03\x00\x00\x01\x01h\x02\x01\x01",
     );
+    board
+}
+
+fn passed_over(start: Board) -> Board {
+    let mut board = start;
     board = show_reading(
         b"other items passed over",
         board,
         b"\x01\x03\x00\x00\x05\x01m\x01\x02h1\x0f\x01\x01\x14\x00\x02\x01\x07",
     );
+    board
 }
 
 fn ages() {
     let watched = board::watch_list(b"\x01\x00\x02h1");
     let mut board = watched.board;
+    board = grow_old(board);
+    board = fall_silent(board);
+    board = come_back(board);
+}
+
+fn grow_old(start: Board) -> Board {
+    let mut board = start;
     board = show_reading(b"update", board, b"\x01\x03\x00\x00\x01\x02h1\x02\x01\x05");
     board = ticked(board, 1);
     show_rows(board);
+    board
+}
+
+fn fall_silent(start: Board) -> Board {
+    let mut board = start;
     board = ticked(board, 27);
     show_rows(board);
     board = ticked(board, 1);
@@ -229,6 +315,11 @@ fn ages() {
     show_rows(board);
     board = ticked(board, 1);
     show_rows(board);
+    board
+}
+
+fn come_back(start: Board) -> Board {
+    let mut board = start;
     board = show_reading(
         b"update of a silent row",
         board,
@@ -241,4 +332,5 @@ fn ages() {
         board,
         b"\x01\x03\x00\x00\x01\x02h1\x02\x01\x06",
     );
+    board
 }

@@ -14,7 +14,7 @@ use value::Value;
 use value::read_value;
 
 // The opcode that the board reads.
-pub const UPDATE: u8 = 0x03;
+const UPDATE: u8 = 0x03;
 
 // What became of a packet: an update of the row at a place, an end mark, or a refusal by number.
 pub enum Answer {

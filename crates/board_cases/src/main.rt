@@ -29,6 +29,13 @@ fn lists() {
     broken_lists();
 }
 
+fn readings() {
+    accepted_packets();
+    refused_packets();
+    refused_names();
+    refused_values();
+}
+
 fn text(s: &[u8]) {
     io::write_all(STDOUT_FILENO, s);
 }
@@ -102,9 +109,21 @@ fn show_list(label: &[u8], fields: &[u8]) {
     show_rows(watched.board);
 }
 
-fn show_reading(label: &[u8], board: Board, packet: &[u8]) -> Board {
+// A board that watches h1 and h2, of which h1 has had the update of case 6.
+fn updated() -> Board {
+    let watched = board::watch_list(b"\x01\x00\x02h1\x01\x00\x02h2");
+    case_6(watched.board)
+}
+
+fn case_6(board: Board) -> Board {
+    let reading = board::read(board, b"\x01\x03\x00\x00\x01\x02h1\x16\x04\x00\x00\x0dz");
+    reading.board
+}
+
+// What the packet does to that board, one tick later.
+fn show_reading(label: &[u8], packet: &[u8]) {
     text(label);
-    let reading = board::read(board, packet);
+    let reading = board::read(rows::tick(updated()), packet);
     let answer = reading.answer;
     match answer {
         Answer::Updated(row) => {
@@ -116,7 +135,6 @@ fn show_reading(label: &[u8], board: Board, packet: &[u8]) -> Board {
         Answer::Refused(number) => refusal(number),
     }
     show_rows(reading.board);
-    reading.board
 }
 
 fn ticked(board: Board, ticks: u32) -> Board {
@@ -127,6 +145,21 @@ fn ticked(board: Board, ticks: u32) -> Board {
         i += 1;
     }
     next
+}
+
+fn show_age(ticks: u32) {
+    natural(ticks as u64);
+    text(b" ticks\n");
+    show_rows(ticked(updated(), ticks));
+}
+
+fn ages() {
+    show_age(28);
+    show_age(29);
+    show_age(30);
+    show_age(31);
+    text(b"updated again\n");
+    show_rows(case_6(ticked(updated(), 31)));
 }
 
 fn known_values() {
@@ -189,148 +222,50 @@ fn broken_lists() {
     show_list(b"empty name", b"\x01\x00\x00");
 }
 
-fn readings() {
-    let watched = board::watch_list(b"\x01\x00\x02h1\x01\x00\x02h2");
-    let mut board = watched.board;
-    board = updates(board);
-    board = refused_packets(board);
-    board = other_packets(board);
-    board = refused_names(board);
-    board = refused_values(board);
-    board = unwatched_names(board);
-    board = passed_over(board);
-}
-
-fn updates(start: Board) -> Board {
-    let mut board = start;
-    board = show_reading(
+fn accepted_packets() {
+    show_reading(
         b"case 6",
-        board,
         b"\x01\x03\x00\x00\x01\x02h1\x16\x04\x00\x00\x0dz",
     );
-    board = show_reading(b"-200", board, b"\x01\x03\x00\x00\x01\x02h2\x02\x02\xff8");
-    board
-}
-
-fn refused_packets(start: Board) -> Board {
-    let mut board = start;
-    board = show_reading(b"9", board, b"\x01\x03\x00");
-    board = show_reading(b"9 by its first byte", board, b"\x02\x03\x00\x00");
-    board = show_reading(b"10", board, b"\x01\x03\x00\x00\x01\x02h");
-    board = show_reading(
-        b"10 by an end with a value",
-        board,
-        b"\x01\x03\x00\x00\x14\x01x",
-    );
-    board = show_reading(b"11", board, b"\x01\x0b\x00\x00\x01\x02h1\x02\x01\x01");
-    board
-}
-
-fn other_packets(start: Board) -> Board {
-    let mut board = start;
-    board = show_reading(b"end mark", board, b"\x01\x03\x00\x00\x14\x00");
-    board
-}
-
-fn refused_names(start: Board) -> Board {
-    let mut board = start;
-    board = show_reading(b"12 without a Name", board, b"\x01\x03\x00\x00\x02\x01\x01");
-    board = show_reading(
-        b"12 by two Names",
-        board,
-        b"\x01\x03\x00\x00\x01\x02h1\x02\x01\x01\x01\x02h2\x02\x01\x02\x14\x00",
-    );
-    board = show_reading(
-        b"12 by a bad Name",
-        board,
-        b"\x01\x03\x00\x00\x01\x021h\x02\x01\x01",
-    );
-    board
-}
-
-fn refused_values(start: Board) -> Board {
-    let mut board = start;
-    board = show_reading(
-        b"13 without a value",
-        board,
-        b"\x01\x03\x00\x00\x02\x01\x01\x01\x02h1",
-    );
-    board = show_reading(
-        b"13 by its length",
-        board,
-        b"\x01\x03\x00\x00\x01\x02h1\x02\x03\x00\x00\x01",
-    );
-    board = show_reading(
-        b"13 by its type",
-        board,
-        b"\x01\x03\x00\x00\x01\x02h1\x03\x011\x02\x01\x01",
-    );
-    board
-}
-
-fn unwatched_names(start: Board) -> Board {
-    let mut board = start;
-    board = show_reading(b"14", board, b"\x01\x03\x00\x00\x01\x02h3\x02\x01\x01");
-    board = show_reading(
-        b"14 by a part of a name",
-        board,
-        b"\x01\x03\x00\x00\x01\x01h\x02\x01\x01",
-    );
-    board
-}
-
-fn passed_over(start: Board) -> Board {
-    let mut board = start;
-    board = show_reading(
+    show_reading(b"h2 -200", b"\x01\x03\x00\x00\x01\x02h2\x02\x02\xff8");
+    show_reading(
         b"other items passed over",
-        board,
         b"\x01\x03\x00\x00\x05\x01m\x01\x02h1\x0f\x01\x01\x14\x00\x02\x01\x07",
     );
-    board
+    show_reading(b"end mark", b"\x01\x03\x00\x00\x14\x00");
 }
 
-fn ages() {
-    let watched = board::watch_list(b"\x01\x00\x02h1");
-    let mut board = watched.board;
-    board = grow_old(board);
-    board = fall_silent(board);
-    board = come_back(board);
+fn refused_packets() {
+    show_reading(b"under 4 bytes", b"\x01\x03\x00");
+    show_reading(b"first byte 2", b"\x02\x03\x00\x00");
+    show_reading(b"cut item", b"\x01\x03\x00\x00\x01\x02h");
+    show_reading(b"end with a value", b"\x01\x03\x00\x00\x14\x01x");
+    show_reading(b"opcode 0b", b"\x01\x0b\x00\x00\x01\x02h1\x02\x01\x01");
 }
 
-fn grow_old(start: Board) -> Board {
-    let mut board = start;
-    board = show_reading(b"update", board, b"\x01\x03\x00\x00\x01\x02h1\x02\x01\x05");
-    board = ticked(board, 1);
-    show_rows(board);
-    board
-}
-
-fn fall_silent(start: Board) -> Board {
-    let mut board = start;
-    board = ticked(board, 27);
-    show_rows(board);
-    board = ticked(board, 1);
-    show_rows(board);
-    board = ticked(board, 1);
-    show_rows(board);
-    board = ticked(board, 1);
-    show_rows(board);
-    board
-}
-
-fn come_back(start: Board) -> Board {
-    let mut board = start;
-    board = show_reading(
-        b"update of a silent row",
-        board,
-        b"\x01\x03\x00\x00\x01\x02h1\x02\x01\x06",
+fn refused_names() {
+    show_reading(b"no Name", b"\x01\x03\x00\x00\x02\x01\x01");
+    show_reading(
+        b"two Names",
+        b"\x01\x03\x00\x00\x01\x02h1\x02\x01\x01\x01\x02h2\x02\x01\x02\x14\x00",
     );
-    board = ticked(board, 1);
-    show_rows(board);
-    board = show_reading(
-        b"update again",
-        board,
-        b"\x01\x03\x00\x00\x01\x02h1\x02\x01\x06",
+    show_reading(b"bad Name", b"\x01\x03\x00\x00\x01\x021h\x02\x01\x01");
+    show_reading(b"not watched", b"\x01\x03\x00\x00\x01\x02h3\x02\x01\x01");
+    show_reading(b"part of a name", b"\x01\x03\x00\x00\x01\x01h\x02\x01\x01");
+}
+
+fn refused_values() {
+    show_reading(
+        b"value before the Name",
+        b"\x01\x03\x00\x00\x02\x01\x01\x01\x02h1",
     );
-    board
+    show_reading(
+        b"three bytes",
+        b"\x01\x03\x00\x00\x01\x02h1\x02\x03\x00\x00\x01",
+    );
+    show_reading(
+        b"string before a number",
+        b"\x01\x03\x00\x00\x01\x02h1\x03\x011\x02\x01\x01",
+    );
+    show_reading(b"Boolean 2", b"\x01\x03\x00\x00\x01\x02h2\x0f\x01\x02");
 }

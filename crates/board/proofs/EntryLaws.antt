@@ -15,10 +15,10 @@ use Rattle.rows.specs.Entries.{shown, rowEntries, entries, freshEntry}
 use Rattle.rows.specs.declared.Board.{Board}
 use Rattle.rows.proofs.NameLaws.{in-used, empty-unused}
 use Rattle.rows.proofs.EntryLaws.{entries-update, watched-update}
-use Rattle.board.specs.WatchList.{mayJoin, sizeOf, isWhole, namesFrom, watchNames}
+use Rattle.board.specs.WatchList.{Good, mayJoin, sizeOf, isWhole, namesFrom, watchNames}
 use Rattle.board.specs.Reading.{Verdict, refused, endMark, update, taskOf, verdictOf, ifWatched, readingOf, refusedWith, updated, applied, readBoard, entriesAfter}
 use Rattle.board.specs.declared.reading.Answer.the-variants.{Updated, EndMark}
-use Rattle.board.proofs.WatchLaws.{both-right, Fits, fresh-name, Ours, ours-none, ours-more}
+use Rattle.board.proofs.WatchLaws.{both-right, Fits, good-fits, fresh-name, good-none, good-more}
 use Rattle.packet.specs.Packet.{packetOf}
 
 fresh-rows : (names : List (List ℕ)) (k : ℕ) → Fits names → rowEntries (map freshRow (names ++ replicate k [])) ≡ map freshEntry names
@@ -30,28 +30,28 @@ fresh-rows ((byte ∷ bytes) ∷ names) k h =
     rw (fresh-name (byte ∷ bytes) (h .0)) (ap (λ r. freshEntry (byte ∷ bytes) ∷ r) (fresh-rows names k (h .1)))
 
 -- 01, The board: on a fresh board each name of the list is never, in the list's order
-pub fresh-entries : (names : List (List ℕ)) → Ours names → entries (boardOf names) ≡ map freshEntry names
-fresh-entries names o = fresh-rows names (rowCount - length names) (o .fit)
+pub fresh-entries : (names : List (List ℕ)) → Good names → entries (boardOf names) ≡ map freshEntry names
+fresh-entries names o = fresh-rows names (rowCount - length names) (good-fits names (o .valid))
 
--- the names of a list that is accepted are such names
-names-ours : (skip : ℕ) (names : List (List ℕ)) (rest : List ℕ) (out : List (List ℕ)) → Ours names → namesFrom skip names rest ≡ some out → Ours out
+-- 01, The board: of a list that is accepted each name is valid, none stands twice, and there are at most 16
+names-good : (skip : ℕ) (names : List (List ℕ)) (rest : List ℕ) (out : List (List ℕ)) → Good names → namesFrom skip names rest ≡ some out → Good out
 unfolding namesFrom
-names-ours zero names [] out o e = let same : names ≡ out = cc in rw (← same) o
-names-ours zero names (tag ∷ []) out o e = let z : _≡_ {A = ℕ} 0 1 = cc in absurd (omega arith)
-names-ours zero names (tag ∷ high ∷ []) out o e = let z : _≡_ {A = ℕ} 0 1 = cc in absurd (omega arith)
-names-ours zero names (tag ∷ high ∷ low ∷ rest) out o e =
+names-good zero names [] out o e = let same : names ≡ out = cc in rw (← same) o
+names-good zero names (tag ∷ []) out o e = let z : _≡_ {A = ℕ} 0 1 = cc in absurd (omega arith)
+names-good zero names (tag ∷ high ∷ []) out o e = let z : _≡_ {A = ℕ} 0 1 = cc in absurd (omega arith)
+names-good zero names (tag ∷ high ∷ low ∷ rest) out o e =
     cases (isWhole tag (sizeOf high low) rest && mayJoin names (take (sizeOf high low) rest)) refl
-    (λ more next. names-ours (sizeOf high low) (names ++ (take (sizeOf high low) rest ∷ [])) rest out more next) e
+    (λ more next. names-good (sizeOf high low) (names ++ (take (sizeOf high low) rest ∷ [])) rest out more next) e
   where
-    cases : (t : Bool) → (isWhole tag (sizeOf high low) rest && mayJoin names (take (sizeOf high low) rest)) ≡ t → (Ours (names ++ (take (sizeOf high low) rest ∷ [])) → namesFrom (sizeOf high low) (names ++ (take (sizeOf high low) rest ∷ [])) rest ≡ some out → Ours out) → cond t (namesFrom (sizeOf high low) (names ++ (take (sizeOf high low) rest ∷ [])) rest) none ≡ some out → Ours out
+    cases : (t : Bool) → (isWhole tag (sizeOf high low) rest && mayJoin names (take (sizeOf high low) rest)) ≡ t → (Good (names ++ (take (sizeOf high low) rest ∷ [])) → namesFrom (sizeOf high low) (names ++ (take (sizeOf high low) rest ∷ [])) rest ≡ some out → Good out) → cond t (namesFrom (sizeOf high low) (names ++ (take (sizeOf high low) rest ∷ [])) rest) none ≡ some out → Good out
     cases true h below e =
-        below (ours-more names (take (sizeOf high low) rest) o (both-right (isWhole tag (sizeOf high low) rest) (mayJoin names (take (sizeOf high low) rest)) h)) e
+        below (good-more names (take (sizeOf high low) rest) o (both-right (isWhole tag (sizeOf high low) rest) (mayJoin names (take (sizeOf high low) rest)) h)) e
     cases false h below e = let z : _≡_ {A = ℕ} 0 1 = cc in absurd (omega arith)
-names-ours (suc skip) names [] out o e = let z : _≡_ {A = ℕ} 0 1 = cc in absurd (omega arith)
-names-ours (suc skip) names (byte ∷ rest) out o e = names-ours skip names rest out o e
+names-good (suc skip) names [] out o e = let z : _≡_ {A = ℕ} 0 1 = cc in absurd (omega arith)
+names-good (suc skip) names (byte ∷ rest) out o e = names-good skip names rest out o e
 
-pub list-ours : (fields : List ℕ) (names : List (List ℕ)) → watchNames fields ≡ some names → Ours names
-list-ours fields names e = names-ours 0 [] fields names ours-none e
+pub list-good : (fields : List ℕ) (names : List (List ℕ)) → watchNames fields ≡ some names → Good names
+list-good fields names e = names-good 0 [] fields names good-none e
 
 -- an accepted update has a row to change
 pub record There (board : Board) (name : List ℕ) : Type 0 where

@@ -10,12 +10,12 @@ use lib.ListN.{length, take, drop, getD, length-drop, drop-of-length-le}
 use lib.Seq.{drop-drop}
 use borrow.Author.Tests.{leb-true}
 use Rattle.rows.specs.Rows.{boardOf}
-use Rattle.board.specs.WatchList.{mayJoin, sizeOf, isWhole, namesFrom, watchNames, fieldOf, asField, watchBoard, acceptedWith, asWatched}
+use Rattle.board.specs.WatchList.{Good, mayJoin, sizeOf, isWhole, namesFrom, watchNames, fieldOf, asField, watchBoard, acceptedWith, asWatched}
 use Rattle.board.specs.declared.list.Field.the-variants.{Name, Bad}
 use Rattle.board.specs.declared.list.Listed.the-variants.{Accepted, Refused}
 use Rattle.board.specs.declared.list.Watched.{Watched}
 use Rattle.rows.specs.declared.Board.{Board}
-use Rattle.board.proofs.WatchLaws.{both-right, Ours, ours-more, watch-more, accepted-joins, refused-stays}
+use Rattle.board.proofs.WatchLaws.{both-right, good-more, watch-more, accepted-joins, refused-stays}
 
 -- the bytes of a name that has joined are passed over
 skipped : (n : ℕ) (names : List (List ℕ)) (rest : List ℕ) → n ≤ length rest → namesFrom n names rest ≡ namesFrom 0 names (drop n rest)
@@ -93,7 +93,7 @@ field-none none e = refl
 pub record Reached (fields : List ℕ) (board : Board) (at : ℕ) : Type 0 where
   pub within : at ≤ length fields
   pub names : List (List ℕ)
-  pub ours : Ours names
+  pub good : Good names
   pub is : board ≡ boardOf names
   pub still : namesFrom 0 names (drop at fields) ≡ watchNames fields
 
@@ -111,22 +111,22 @@ module _ (fields : List ℕ) (board : Board) (at : ℕ) (r : Reached fields boar
   -- so does a name that is refused
   pub reached-refused : (size number : ℕ) → fieldOf (drop at fields) ≡ some size → watchBoard board (nameAt fields at size) .answer ≡ Refused number → watchNames fields ≡ none
   reached-refused size number field refused =
-      let stays = refused-stays (r .names) (nameAt fields at size) number (r .ours) (rw (r .is) at refused) in
+      let stays = refused-stays (r .names) (nameAt fields at size) number (r .good) (rw (r .is) at refused) in
       sym (r .still) ∙ field-next (r .names) (drop at fields) size field ∙ rw stays
 
   -- one that is accepted is the next of the names
   pub reached-next : (size : ℕ) → fieldOf (drop at fields) ≡ some size → watchBoard board (nameAt fields at size) .answer ≡ Accepted → Reached fields (watchBoard board (nameAt fields at size) .board) (at + (size + 3))
   reached-next size field accepted =
       let name = nameAt fields at size in
-      let joins = accepted-joins (r .names) name (r .ours) (rw (r .is) at accepted) in
+      let joins = accepted-joins (r .names) name (r .good) (rw (r .is) at accepted) in
       let fits = field-size (drop at fields) size field in
       let next = sym (field-next (r .names) (drop at fields) size field) ∙ r .still in
       let rest : drop (size + 3) (drop at fields) ≡ drop (at + (size + 3)) fields = drop-drop (size + 3) at fields in
       record {
         within = omega (arith, length-drop at fields);
         names = r .names ++ (name ∷ []);
-        ours = ours-more (r .names) name (r .ours) joins;
-        is = rw (r .is) (ap (λ (w : Watched). w .board) (watch-more (r .names) name (r .ours) joins));
+        good = good-more (r .names) name (r .good) joins;
+        is = rw (r .is) (ap (λ (w : Watched). w .board) (watch-more (r .names) name (r .good) joins));
         still = rw (joins, rest) at next;
       }
 

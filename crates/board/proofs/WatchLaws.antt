@@ -8,17 +8,17 @@ use Prim.Native.Nat.{ℕ, zero, suc, _+_, _-_, _≤_, _<_}
 use native.Mathlib.Omega.{arith}
 use lib.Dec.{leb, ltb}
 use lib.ListN.{length, getD, replicate, length-append, length-map}
-use borrow.Author.Tests.{leb-true, ltb-true}
+use borrow.Author.Tests.{leb-true, ltb-true, not-true}
 use Rattle.packet.specs.Names.{between, isLetter, allNameBytes, validName}
 use Rattle.slices.proofs.PutLaws.{put-first}
-use Rattle.rows.specs.Names.{placeOf, isIn}
+use Rattle.rows.specs.Names.{placeFrom, placeOf, isIn}
 use Rattle.rows.specs.Rows.{rowCount, nameRoom, rowName, rowNames, watched, freshRow, changeAt, putRow, boardOf, asPlace}
-use Rattle.board.specs.WatchList.{mayJoin, watchBoard, joinBoard, acceptedWith, refusedWith}
+use Rattle.board.specs.WatchList.{Good, allValid, distinct, mayJoin, watchBoard, joinBoard, acceptedWith, refusedWith}
 use Rattle.board.specs.declared.list.Listed.the-variants.{Accepted, Refused}
 use Rattle.rows.specs.declared.Place.the-variants.{Row as At, Nowhere}
 use Rattle.rows.specs.declared.Row.{Row}
 use Rattle.rows.specs.declared.Board.{Board}
-use Rattle.rows.proofs.NameLaws.{NoneEmpty, used-first, place-empty, in-used, room}
+use Rattle.rows.proofs.NameLaws.{NoneEmpty, used-first, place-empty, in-used, room, not-in, in-more, differ}
 
 pub both-left : (t u : Bool) → (t && u) ≡ true → t ≡ true
 both-left true u h = refl
@@ -57,10 +57,6 @@ none-empty : (names : List (List ℕ)) → Fits names → NoneEmpty names
 none-empty [] h = tt
 none-empty (name ∷ names) h = (h .0 .some, none-empty names (h .1))
 
-fits-more : (names : List (List ℕ)) (name : List ℕ) → Fits names → Fit name → Fits (names ++ (name ∷ []))
-fits-more [] name h f = (f, tt)
-fits-more (first ∷ names) name h f = (h .0, fits-more names name (h .1) f)
-
 -- a fresh row has the name that it was given
 pub fresh-name : (name : List ℕ) → Fit name → rowName (freshRow name) ≡ name
 fresh-name name f = put-first (replicate nameRoom 0) name (f .few)
@@ -80,13 +76,16 @@ unfolding changeAt
 change-unused [] name k = refl
 change-unused (first ∷ names) name k = ap (λ r. freshRow first ∷ r) (change-unused names name k)
 
--- names that a board of ours watches
-pub record Ours (names : List (List ℕ)) : Type 0 where
-  pub fit : Fits names
-  pub few : length names ≤ rowCount
+-- names of a watch list fit
+pub good-fits : (names : List (List ℕ)) → allValid names ≡ true → Fits names
+unfolding allValid
+good-fits [] h = tt
+good-fits (name ∷ names) h =
+    (valid-fit name (both-left (validName name) (allValid names) h), good-fits names (both-right (validName name) (allValid names) h))
 
-pub ours-none : Ours []
-ours-none = record { fit = tt; few = omega arith }
+pub good-none : Good []
+unfolding allValid distinct
+good-none = record { valid = refl; once = refl; few = omega arith }
 
 join-few : (names : List (List ℕ)) (name : List ℕ) → mayJoin names name ≡ true → length names < rowCount
 unfolding mayJoin
@@ -94,15 +93,34 @@ join-few names name h =
     let test = not (isIn name names) && ltb (length names) rowCount in
     ltb-true (length names) rowCount (both-right (not (isIn name names)) (ltb (length names) rowCount) (both-right (validName name) test h))
 
-join-fit : (names : List (List ℕ)) (name : List ℕ) → mayJoin names name ≡ true → Fit name
-unfolding mayJoin
-join-fit names name h = valid-fit name (both-left (validName name) (not (isIn name names) && ltb (length names) rowCount) h)
+valid-more : (names : List (List ℕ)) (name : List ℕ) → allValid names ≡ true → validName name ≡ true → allValid (names ++ (name ∷ [])) ≡ true
+unfolding allValid
+valid-more [] name h v = rw v
+valid-more (first ∷ names) name h v =
+    let valid = both-left (validName first) (allValid names) h in
+    rw valid (valid-more names name (both-right (validName first) (allValid names) h) v)
+
+once-more : (names : List (List ℕ)) (name : List ℕ) → distinct names ≡ true → isIn name names ≡ false → distinct (names ++ (name ∷ [])) ≡ true
+unfolding distinct placeFrom
+once-more [] name h e = refl
+once-more (first ∷ names) name h e =
+    let out = not-in name first names e in
+    let alone = not-true (isIn first names) (both-left (not (isIn first names)) (distinct names) h) in
+    let still = in-more first name names (differ first name (out .first)) alone in
+    rw still (once-more names name (both-right (not (isIn first names)) (distinct names) h) (out .others))
 
 -- with a name that may join they are again
-pub ours-more : (names : List (List ℕ)) (name : List ℕ) → Ours names → mayJoin names name ≡ true → Ours (names ++ (name ∷ []))
-ours-more names name o h =
+pub good-more : (names : List (List ℕ)) (name : List ℕ) → Good names → mayJoin names name ≡ true → Good (names ++ (name ∷ []))
+unfolding mayJoin
+good-more names name o h =
+    let test = not (isIn name names) && ltb (length names) rowCount in
+    let rest = both-right (validName name) test h in
     let few = join-few names name h in
-    record { fit = fits-more names name (o .fit) (join-fit names name h); few = simp length-append (omega arith) }
+    record {
+      valid = valid-more names name (o .valid) (both-left (validName name) test h);
+      once = once-more names name (o .once) (not-true (isIn name names) (both-left (not (isIn name names)) (ltb (length names) rowCount) rest));
+      few = simp length-append (omega arith);
+    }
 
 join-row : (names : List (List ℕ)) (name : List ℕ) (k : ℕ) → Fits names → joinBoard (record { rows = map freshRow (names ++ replicate (suc k) []) }) name (placeOf [] (map rowName (map freshRow (names ++ replicate (suc k) [])))) ≡ record { rows = map freshRow (names ++ (name ∷ []) ++ replicate k []) }
 join-row names name k h =
@@ -111,21 +129,21 @@ join-row names name k h =
     (ap (λ (rows : List Row). record { rows = rows }) (change-unused names name k))
 
 -- one name more on a board of ours: the board of the names with it, in their order
-pub watch-more : (names : List (List ℕ)) (name : List ℕ) → Ours names → mayJoin names name ≡ true → watchBoard (boardOf names) name ≡ acceptedWith (boardOf (names ++ (name ∷ [])))
+pub watch-more : (names : List (List ℕ)) (name : List ℕ) → Good names → mayJoin names name ≡ true → watchBoard (boardOf names) name ≡ acceptedWith (boardOf (names ++ (name ∷ [])))
 unfolding watchBoard
 watch-more names name o h =
     let few = join-few names name h in
     let now : rowCount - length names ≡ suc (rowCount - suc (length names)) = omega arith in
     let then : rowCount - length (names ++ (name ∷ [])) ≡ rowCount - suc (length names) = simp length-append (omega arith) in
-    rw (watched-names names (o .fit), h, now, then) (ap acceptedWith (join-row names name (rowCount - suc (length names)) (o .fit)))
+    rw (watched-names names (good-fits names (o .valid)), h, now, then) (ap acceptedWith (join-row names name (rowCount - suc (length names)) (good-fits names (o .valid))))
 
 -- or the refusal, with the board as it was
-pub watch-refused : (names : List (List ℕ)) (name : List ℕ) → Ours names → mayJoin names name ≡ false → watchBoard (boardOf names) name ≡ refusedWith (boardOf names)
+pub watch-refused : (names : List (List ℕ)) (name : List ℕ) → Good names → mayJoin names name ≡ false → watchBoard (boardOf names) name ≡ refusedWith (boardOf names)
 unfolding watchBoard
-watch-refused names name o h = rw (watched-names names (o .fit), h)
+watch-refused names name o h = rw (watched-names names (good-fits names (o .valid)), h)
 
 -- so the answer tells which it was
-pub accepted-joins : (names : List (List ℕ)) (name : List ℕ) → Ours names → watchBoard (boardOf names) name .answer ≡ Accepted → mayJoin names name ≡ true
+pub accepted-joins : (names : List (List ℕ)) (name : List ℕ) → Good names → watchBoard (boardOf names) name .answer ≡ Accepted → mayJoin names name ≡ true
 accepted-joins names name o e = cases (mayJoin names name) refl
   where
     cases : (t : Bool) → mayJoin names name ≡ t → t ≡ true
@@ -135,7 +153,7 @@ accepted-joins names name o e = cases (mayJoin names name) refl
         let z : _≡_ {A = ℕ} 0 1 = cc in
         absurd (omega arith)
 
-pub refused-stays : (names : List (List ℕ)) (name : List ℕ) (number : ℕ) → Ours names → watchBoard (boardOf names) name .answer ≡ Refused number → mayJoin names name ≡ false
+pub refused-stays : (names : List (List ℕ)) (name : List ℕ) (number : ℕ) → Good names → watchBoard (boardOf names) name .answer ≡ Refused number → mayJoin names name ≡ false
 refused-stays names name number o e = cases (mayJoin names name) refl
   where
     cases : (t : Bool) → mayJoin names name ≡ t → t ≡ false

@@ -1,7 +1,8 @@
 -- 01, The board: "The watch list is stored as tagged fields: one-byte tag, two-byte length (high byte first), value. Tag 01 is a
 -- name. At most 16 names, 0 allowed, no name twice; a bad name, another tag or a cut field is refusal 15 too."
-use Prim.Native.Nat.{ℕ, zero, suc, _+_, _*_}
-use mathlib.Core.Bool.{Bool, cond, not, _&&_}
+use Prim.Native.Nat.{ℕ, zero, suc, _+_, _*_, _≤_}
+use mathlib.Core.Path.{_≡_}
+use mathlib.Core.Bool.{Bool, true, cond, not, _&&_}
 use mathlib.Core.List.{List, [], _∷_, _++_}
 use mathlib.Core.Option.{Option, some, none}
 use lib.Dec.{eqb, leb, ltb}
@@ -19,6 +20,20 @@ use Rattle.board.specs.declared.list.Watched.{Watched}
 -- whether a name may join the names before it: a valid name, none of them, and fewer than 16 before it
 unfoldable pub mayJoin : List (List ℕ) → List ℕ → Bool
 mayJoin names name = validName name && (not (isIn name names) && ltb (length names) rowCount)
+
+-- what a watch list says of its names: each is valid, none stands twice, and there are at most 16
+unfoldable pub allValid : List (List ℕ) → Bool
+allValid [] = true
+allValid (name ∷ names) = validName name && allValid names
+
+unfoldable pub distinct : List (List ℕ) → Bool
+distinct [] = true
+distinct (name ∷ names) = not (isIn name names) && distinct names
+
+pub record Good (names : List (List ℕ)) : Type 0 where
+  pub valid : allValid names ≡ true
+  pub once : distinct names ≡ true
+  pub few : length names ≤ rowCount
 
 -- the length that a field has
 abbrev pub sizeOf : ℕ → ℕ → ℕ

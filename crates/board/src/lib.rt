@@ -3,6 +3,7 @@ mod list;
 mod reading;
 
 pub use list::Listed;
+pub use list::NAME_TAG;
 pub use list::Watched;
 pub use list::watch;
 pub use list::watch_list;

@@ -14,7 +14,7 @@ use value::Value;
 use value::read_value;
 
 // The opcode that the board reads.
-pub const UPDATE: u8 = 0x03;
+const UPDATE: u8 = 0x03;
 
 // What became of a packet: an update of the row at a place, an end mark, or a refusal by number.
 pub enum Answer {
@@ -123,8 +123,6 @@ fn read_update(board: Board, packet: &[u8]) -> Reading
 fn refused(board: Board, number: u8) -> Reading
     ensures { λ r. ⌜ r ≡ refusedWith board number ⌝ }
 {
-    Reading {
-        board,
-        answer: Answer::Refused(number),
-    }
+    let answer = Answer::Refused(number);
+    Reading { board, answer }
 }

@@ -10,6 +10,7 @@ use lib.Dec.{ltb, leb·suc-suc}
 use lib.ListN.{length, replicate}
 use borrow.Author.Tests.{lt-ltb}
 use Rattle.slices.specs.Same.{sameBytes}
+use Rattle.slices.proofs.SameLaws.{same-equal, same-refl}
 use Rattle.rows.specs.Names.{placeFrom, isSome, isIn, used}
 
 found-alike : (t : Bool) (a b : ℕ) (p q : Option ℕ) → isSome p ≡ isSome q → isSome (cond t (some a) p) ≡ isSome (cond t (some b) q)
@@ -75,3 +76,49 @@ place-empty ([] ∷ names) k a h = absurd (let z = h .0 in omega arith)
 place-empty ((byte ∷ bytes) ∷ names) k a h =
     let e : a + suc (length names) ≡ suc a + length names = omega arith in
     rw e (place-empty names k (suc a) (h .1))
+
+-- from where the names are counted does not matter
+in-shift : (name : List ℕ) (names : List (List ℕ)) (a b : ℕ) → isSome (placeFrom a name names) ≡ isSome (placeFrom b name names)
+unfolding placeFrom
+in-shift name [] a b = refl
+in-shift name (other ∷ names) a b =
+    found-alike (sameBytes other name) a b (placeFrom (suc a) name names) (placeFrom (suc b) name names) (in-shift name names (suc a) (suc b))
+
+-- a name that is none of the names is not the first, and none of the others
+pub record NotIn (name other : List ℕ) (names : List (List ℕ)) : Type 0 where
+  pub first : sameBytes other name ≡ false
+  pub others : isIn name names ≡ false
+
+pub not-in : (name other : List ℕ) (names : List (List ℕ)) → isIn name (other ∷ names) ≡ false → NotIn name other names
+unfolding placeFrom
+not-in name other names e = cases (sameBytes other name) refl e
+  where
+    cases : (t : Bool) → sameBytes other name ≡ t → isSome (cond t (some 0) (placeFrom 1 name names)) ≡ false → NotIn name other names
+    cases true h e = let z : _≡_ {A = ℕ} 0 1 = cc in absurd (omega arith)
+    cases false h e = record { first = h; others = in-shift name names 0 1 ∙ e }
+
+-- nor does it become one of them when another name joins
+more-from : (name other : List ℕ) (names : List (List ℕ)) (a : ℕ) → sameBytes other name ≡ false → isSome (placeFrom a name names) ≡ false → isSome (placeFrom a name (names ++ (other ∷ []))) ≡ false
+unfolding placeFrom
+more-from name other [] a differs h = rw differs
+more-from name other (first ∷ names) a differs h = cases (sameBytes first name) (λ later. more-from name other names (suc a) differs later) h
+  where
+    cases : (t : Bool) → (isSome (placeFrom (suc a) name names) ≡ false → isSome (placeFrom (suc a) name (names ++ (other ∷ []))) ≡ false) → isSome (cond t (some a) (placeFrom (suc a) name names)) ≡ false → isSome (cond t (some a) (placeFrom (suc a) name (names ++ (other ∷ [])))) ≡ false
+    cases true below h = h
+    cases false below h = below h
+
+pub in-more : (name other : List ℕ) (names : List (List ℕ)) → sameBytes other name ≡ false → isIn name names ≡ false → isIn name (names ++ (other ∷ [])) ≡ false
+in-more name other names differs h = more-from name other names 0 differs h
+
+-- of two names that differ each differs from the other
+pub differ : (a b : List ℕ) → sameBytes a b ≡ false → sameBytes b a ≡ false
+differ a b h = cases (sameBytes b a) refl
+  where
+    cases : (t : Bool) → sameBytes b a ≡ t → t ≡ false
+    cases false e = refl
+    cases true e =
+        let same : b ≡ a = same-equal b a e in
+        let never : sameBytes a a ≡ false = rw same at h in
+        let always : sameBytes a a ≡ true = same-refl a in
+        let z : _≡_ {A = ℕ} 0 1 = cc in
+        absurd (omega arith)

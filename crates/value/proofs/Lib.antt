@@ -1,2 +1,3 @@
 pub mod KnownAnswers
+pub mod SignLaws
 pub mod ValueLaws

@@ -1,6 +1,7 @@
 // The value of a value item.
 ghost use mathlib.Core.Path.{_≡_};
 ghost use Prim.Native.Nat.{_*_, _^_, _≤_, _<_};
+ghost use lib.IntN.{natAbs};
 ghost use lib.ListN.{length};
 ghost use Rattle.value.specs.Value.{twos, leastNegative, numberOf, booleanOf, valueOf, asValue, Word};
 
@@ -31,6 +32,17 @@ pub fn read_value(kind: u8, bytes: &[u8]) -> Value
         return boolean(bytes);
     }
     Value::Bad
+}
+
+// The number without its sign, for a caller that prints it.
+pub fn magnitude(number: i64) -> u64
+    ensures { λ r. ⌜ r ≡ natAbs number ⌝ }
+{
+    if number < 0 {
+        let less = !number;
+        return less as u64 + 1;
+    }
+    number as u64
 }
 
 // A signed number of 1, 2, 4 or 8 bytes, high byte first.

@@ -9,7 +9,7 @@ use borrow.Author.Needs.{needs}
 use lib.ListN.{length, length-take, take, drop, length-drop}
 use Rattle.board.specs.declared.list.Watched.{Watched}
 use Rattle.board.specs.WatchList.{fieldOf, watchBoard}
-use Rattle.board.proofs.WatchLaws.{ours-none}
+use Rattle.board.proofs.WatchLaws.{good-none}
 use Rattle.board.proofs.FieldLaws.{Reached, nameAt, field-name, field-none, field-size, reached-bad, reached-refused, reached-next, reached-end}
 use Rattle.packet.proofs.WalkLaws.{part-rest}
 use Rattle.board.proofs.list.watch_list.Statement.{statement}
@@ -54,7 +54,7 @@ fresh-requires : tie.Need-fresh-requires Inv-loop μ-loop
 fresh-requires c κs = tt
 
 loop-holds : tie.Need-loop-holds Inv-loop μ-loop
-loop-holds c = record { within = omega arith; names = []; ours = ours-none; is = c .fresh .ensures; still = refl }
+loop-holds c = record { within = omega arith; names = []; good = good-none; is = c .fresh .ensures; still = refl }
 
 sub-rest : tie.Need-sub-rest Inv-loop μ-loop
 sub-rest c = search needs

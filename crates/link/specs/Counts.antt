@@ -1,5 +1,5 @@
 -- 01, The receiver: the ten counts are new, again, heard, unread and refusals 1 to 6.
-use Prim.Native.Nat.{ℕ, zero, suc, _+_, _-_, _%_}
+use Prim.Native.Nat.{ℕ, _+_, _-_, _%_}
 use mathlib.Core.Bool.{cond}
 use mathlib.Core.List.{List}
 use lib.Dec.{eqb}

@@ -11,7 +11,7 @@ use Rattle.link.specs.declared.counts.Event.the-variants.{New, Again, He
 abbrev pub noCounts : Counts
 noCounts = record { new = 0; again = 0; heard = 0; unread = 0; refused = replicate 6 0 }
 
--- each count is 16 bits and goes from 65,535 back to 0
+-- 01, The receiver: each count is 16 bits and goes from 65,535 back to 0
 abbrev pub plusOne : ℕ → ℕ
 plusOne n = (n + 1) % 65536
 

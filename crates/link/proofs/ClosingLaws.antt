@@ -1,25 +1,25 @@
 -- A frame at its closing flag, one law for each way through the code.
-use mathlib.Core.Path.{_≡_, refl, sym, ap, _∙_}
+use mathlib.Core.Path.{_≡_, refl, sym, _∙_}
 use mathlib.Core.Bool.{Bool, true, false}
 use mathlib.Core.List.{List, [], _∷_}
-use Prim.Native.Nat.{ℕ, _+_, _/_, _%_, _≤_, _<_, min}
+use Prim.Native.Nat.{ℕ, _/_, _%_, _≤_, _<_, min}
 use native.Mathlib.Omega.{arith}
 use lib.Dec.{eqb, leb}
-use lib.ListN.{length, take, length-append}
+use lib.ListN.{length, take}
 use lib.Seq.{take-all}
 use borrow.Author.Tests.{eq-eqb, ne-eqb, leb-true, leb-false}
 use Rattle.refusals.specs.Numbers.{unknownType}
 use Rattle.crc.specs.Crc.{linkStart, crcOf}
 use Rattle.frame.specs.Stuffing.{stuff}
-use Rattle.frame.specs.Content.{Read, frame, refused, contentOf, judged}
-use Rattle.frame.specs.Writing.{Written, written, writeFrame}
-use Rattle.frame.specs.Answers.{WritesAs, writeAnswer}
+use Rattle.frame.specs.Content.{frame, refused, contentOf, judged}
+use Rattle.frame.specs.Writing.{written, writeFrame}
+use Rattle.frame.specs.Answers.{WritesAs}
 use Rattle.frame.specs.declared.writer.Written as declared
 use Rattle.frame.proofs.StuffLaws.{length-stuff}
 use Rattle.frame.proofs.WriteLaws.{length-framed, content-room, payload-allowed}
 use Rattle.link.specs.declared.counts.Counts.{Counts}
 use Rattle.link.specs.declared.receiver.Last.{Last}
-use Rattle.link.specs.Closing.{dataType, acknowledgementType, replyRoom, acknowledgement, repeats, Outcome, refusedFrame, acknowledgementFrame, againFrame, newFrame, dataFrame, frameOutcome, closedBy, ClosesAs, AcknowledgesAs}
+use Rattle.link.specs.Closing.{dataType, acknowledgementType, replyRoom, acknowledgement, repeats, refusedFrame, acknowledgementFrame, againFrame, newFrame, dataFrame, frameOutcome, closedBy, ClosesAs, AcknowledgesAs}
 
 -- of an acknowledgement's four bytes of content the type is not escaped
 stuffed-acknowledgement : (q h l : ℕ) → length (stuff (acknowledgementType ∷ q ∷ h ∷ l ∷ [])) ≤ 7

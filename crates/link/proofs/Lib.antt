@@ -8,3 +8,4 @@ pub mod SeenLaws
 pub mod RunLaws
 pub mod FrameLaws
 pub mod OursLaws
+pub mod RoomLaws

@@ -2,7 +2,7 @@
 use mathlib.Core.Path.{_≡_, refl, sym, _∙_}
 use mathlib.Core.Bool.{Bool, true, false}
 use mathlib.Core.List.{List, [], _∷_}
-use Prim.Native.Nat.{ℕ, suc, _≤_, _<_}
+use Prim.Native.Nat.{ℕ, suc, _≤_}
 use native.Mathlib.Omega.{arith}
 use lib.Dec.{eqb, ltb}
 use lib.ListN.{length}
@@ -13,7 +13,7 @@ use Rattle.link.specs.declared.reader.Reader.{Reader}
 use Rattle.link.specs.declared.reader.Ended.{Ended}
 use Rattle.link.specs.declared.reader.Ended.the-variants as ends
 use Rattle.link.specs.declared.receiver.Link.{Link}
-use Rattle.link.specs.Reader.{endedBy, stepOf, contentAfter}
+use Rattle.link.specs.Reader.{endedBy, stepOf}
 use Rattle.link.specs.Walk.{Turn, goes-on, stops, flagTurn, turnOf, goOn, walkOf}
 use Rattle.link.specs.Closing.{replyRoom}
 use Rattle.link.specs.Receiving.{freshLink, withUnreadPacket, walkCall, receiveOf}

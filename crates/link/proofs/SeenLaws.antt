@@ -1,14 +1,13 @@
 -- What a byte makes of the reader depends on what was seen before, and on the byte, alone.
-use mathlib.Core.Path.{_≡_, refl, sym, ap, ap₂, _∙_}
+use mathlib.Core.Path.{_≡_, refl, sym, ap, _∙_}
 use mathlib.Core.Bool.{Bool, true, false, cond}
-use mathlib.Core.List.{List, [], _∷_, _++_, append-nil}
-use Prim.Native.Nat.{ℕ, suc, _≤_, _<_}
+use mathlib.Core.List.{List, _++_, append-nil}
+use Prim.Native.Nat.{ℕ, _≤_, _<_}
 use native.Mathlib.Omega.{arith}
 use lib.Dec.{eqb, ltb}
 use lib.ListN.{length, take, length-take}
 use lib.Seq.{length-take-le, take-suc-set, take-all}
 use borrow.Author.Tests.{ltb-true, ltb-false}
-use Rattle.slices.specs.Put.{putAt}
 use Rattle.frame.specs.Stuffing.{contentMax, plain, escaped, Meaning, escapes-next, stands-for, faulty, meaning}
 use Rattle.link.specs.declared.counts.Counts.{Counts}
 use Rattle.link.specs.declared.reader.Phase.{Phase}
@@ -18,8 +17,8 @@ use Rattle.link.specs.declared.reader.Ended.{Ended}
 use Rattle.link.specs.declared.reader.Ended.the-variants as ends
 use Rattle.link.specs.declared.receiver.Last.{Last}
 use Rattle.link.specs.Reader.{endedIn, endedBy, Step, turned, storeOf, stepBy, stepIn, stepOf, contentAfter}
-use Rattle.link.specs.Closing.{frameOutcome, closeOf}
-use Rattle.link.specs.Seen.{Seen, seen, readerOf, seenAfter, closeSeen}
+use Rattle.link.specs.Closing.{closeOf}
+use Rattle.link.specs.Seen.{seen, readerOf, seenAfter, closeSeen}
 use Rattle.link.proofs.ReaderLaws.{store-room, store-full}
 
 -- a step behind `held` bytes of content: the content grows by what the byte brings, within its bound

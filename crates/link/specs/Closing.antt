@@ -99,7 +99,7 @@ readOutcome (content.frame kind sequence payload) previous before =
 unfoldable pub frameOutcome : List ℕ → Last → Counts → Outcome
 frameOutcome c previous before = readOutcome (judged c) previous before
 
--- what a flag ended, with the content in front of it
+-- 01, Frames: an empty frame is dropped uncounted; a fault is its refusal; other content is judged
 abbrev pub closeOf : Ended → List ℕ → Last → Counts → Outcome
 closeOf ends.Nothing array previous before =
     record { last = previous; counts = before; answer = says.Nothing; reply = []; packet = [] }

@@ -1,5 +1,5 @@
 -- 01, The receiver: the ten counts are new, again, heard, unread and refusals 1 to 6.
-use Prim.Native.Nat.{ℕ, zero, suc, _+_, _-_, _%_}
+use Prim.Native.Nat.{ℕ, _+_, _-_, _%_}
 use mathlib.Core.Bool.{cond}
 use mathlib.Core.List.{List}
 use lib.Dec.{eqb}
@@ -11,7 +11,7 @@ use Rattle.link.specs.declared.counts.Event.the-variants.{New, Again, He
 abbrev pub noCounts : Counts
 noCounts = record { new = 0; again = 0; heard = 0; unread = 0; refused = replicate 6 0 }
 
--- each count is 16 bits and goes from 65,535 back to 0
+-- 01, The receiver: each count is 16 bits and goes from 65,535 back to 0
 abbrev pub plusOne : ℕ → ℕ
 plusOne n = (n + 1) % 65536
 

@@ -13,11 +13,11 @@ use Rattle.link.specs.declared.reader.Reader.{Reader}
 use Rattle.link.specs.declared.reader.Ended.{Ended}
 use Rattle.link.specs.declared.reader.Ended.the-variants as ended
 
--- each flag begins a frame, which is empty at first
+-- 01, Frames: each flag after the first ends one frame and begins the next, which is empty at first
 abbrev pub behindFlag : Reader
 behindFlag = record { phase = Plain; length = 0 }
 
--- Each flag after the first ends a frame. An empty one is dropped; 7d followed by the flag is refusal 1.
+-- 01, Frames: content of length 0 without a fault is no frame; 7d followed by the closing flag is refusal 1
 abbrev pub endedIn : Phase → ℕ → Ended
 endedIn Before held = ended.Nothing
 endedIn Plain held = cond (eqb held 0) ended.Nothing (ended.Content held)
@@ -33,24 +33,24 @@ pub record Step : Type 0 where
   pub reader : Reader
   pub brings : List ℕ
 
--- a reader that a byte brings no content
+-- a byte that brings no content
 abbrev pub turned : Phase → ℕ → Step
 turned phase held = record { reader = record { phase = phase; length = held }; brings = [] }
 
--- one byte of content behind `held` bytes; the 388th is refusal 2
+-- 01, Refusal numbers: one byte of content behind `held` bytes; the 388th is refusal 2
 abbrev pub storeOf : ℕ → ℕ → Step
 storeOf held b =
     cond (ltb held contentMax)
     (record { reader = record { phase = Plain; length = suc held }; brings = b ∷ [] })
     (turned LongContent held)
 
--- by what the byte means in a frame (01, Frames)
+-- 01, Frames: by what the byte means, plain or behind an escape byte
 abbrev pub stepBy : Meaning → ℕ → Step
 stepBy escapes-next held = turned Escaped held
 stepBy (stands-for b) held = storeOf held b
 stepBy faulty held = turned BadFraming held
 
--- Bytes before the first flag are dropped. Of 1 and 2 the one met first stays.
+-- 01, The receiver: bytes before the first flag are dropped. 01, Refusal numbers: of 1 and 2 the one met first stays.
 abbrev pub stepIn : Phase → ℕ → ℕ → Step
 stepIn Before held b = turned Before held
 stepIn Plain held b = stepBy (meaning plain b) held

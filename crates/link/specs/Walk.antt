@@ -45,7 +45,7 @@ walkOf [] content reader n = record { content = content; reader = reader; taken 
 walkOf (b ∷ bs) content reader n =
     goOn (turnOf content reader b) content (suc n) (λ content₁ reader₁ n₁. walkOf bs content₁ reader₁ n₁)
 
--- how the code answers a walk
+-- how the code answers a walk, and what it leaves in the array
 abbrev pub walkAnswer : Walk → declared.Walked
 walkAnswer w = record { reader = w .reader; taken = w .taken; ended = w .ended }
 

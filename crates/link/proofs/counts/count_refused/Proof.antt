@@ -1,6 +1,5 @@
 -- `link::counts::count_refused` meets its contract: the tests are the definition's, and past the six counts nothing is stored.
 use borrow.Author.Needs.{needs}
-use mathlib.Core.Path.{_≡_}
 use Prim.Native.Nat.{_-_, _≤_}
 use native.Mathlib.Omega.{arith}
 use lib.ListN.{length}

@@ -3,7 +3,7 @@
 use mathlib.Core.Path.{_≡_, refl, sym, ap, _∙_}
 use mathlib.Core.Logic.{⊎-elim}
 use mathlib.Core.List.{List, [], _∷_}
-use Prim.Native.Nat.{ℕ, _+_, _-_, _≤_, _<_}
+use Prim.Native.Nat.{ℕ, _-_, _≤_, _<_}
 use native.Mathlib.Omega.{arith}
 use lib.ListN.{length, drop, getD}
 use types.Run.{OneOf}
@@ -11,8 +11,8 @@ use denote.Enum.Declared as enums
 use Rattle.link.proofs.reader.Ended as ended-type
 use Rattle.link.specs.declared.reader.Ended.{Ended}
 use Rattle.link.specs.declared.reader.Ended.the-variants as ends
-use Rattle.link.specs.Reader.{behindFlag, endedBy, stepOf, contentAfter}
-use Rattle.link.specs.Walk.{stops, flagTurn, Walk, walkOf, WalksAs}
+use Rattle.link.specs.Reader.{endedBy}
+use Rattle.link.specs.Walk.{stops, flagTurn, walkOf}
 use Rattle.link.proofs.WalkLaws.{turn-flag, turn-byte, walk-on, walk-stop, walk-end}
 use Rattle.link.proofs.reader.walk.Statement.{statement}
 use Rattle.link.proofs.reader.walk.Tie as tie

@@ -1,6 +1,5 @@
 -- `link::receiver::acknowledge` meets its contract: nine bytes are room for any acknowledgement, so the writer refuses none.
 use borrow.Author.Needs.{needs}
-use mathlib.Core.Path.{_≡_}
 use Rattle.link.proofs.ClosingLaws.{acknowledged, not-refused}
 use Rattle.link.proofs.receiver.acknowledge.Statement.{statement}
 use Rattle.link.proofs.receiver.acknowledge.Tie as tie

@@ -1,6 +1,6 @@
 -- `link::receiver::close` meets its contract: each end computes to its own case, and a length past the array is all of it.
 use borrow.Author.Needs.{needs}
-use mathlib.Core.Path.{_≡_, refl, sym}
+use mathlib.Core.Path.{refl, sym}
 use Prim.Native.Nat.{_≤_}
 use native.Mathlib.Omega.{arith}
 use lib.ListN.{length}

@@ -1,7 +1,7 @@
 -- `link::receiver::receive` meets its contract: a short buffer has its law; otherwise the walk and the frame that it ended
 -- make the call.
 use borrow.Author.Needs.{needs}
-use mathlib.Core.Path.{_≡_, refl, sym, ap, _∙_}
+use mathlib.Core.Path.{refl, sym, ap, _∙_}
 use lib.ListN.{length}
 use Rattle.link.specs.Walk.{walkOf}
 use Rattle.link.proofs.LengthLaws.{whole-content}

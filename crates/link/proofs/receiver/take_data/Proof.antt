@@ -1,6 +1,6 @@
 -- `link::receiver::take_data` meets its contract: what it calls answers for the reply, the counts and the packet.
 use borrow.Author.Needs.{needs}
-use mathlib.Core.Path.{_≡_, refl, sym, _∙_}
+use mathlib.Core.Path.{refl, sym, _∙_}
 use Rattle.link.proofs.ClosingLaws.{data-again, data-new}
 use Rattle.link.proofs.receiver.take_data.Statement.{statement}
 use Rattle.link.proofs.receiver.take_data.Tie as tie

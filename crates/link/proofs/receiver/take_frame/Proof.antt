@@ -1,10 +1,10 @@
 -- `link::receiver::take_frame` meets its contract: what `judge` answered says what the content is, and each type has its law.
 use borrow.Author.Needs.{needs}
-use mathlib.Core.Path.{_≡_, refl, sym, _∙_}
+use mathlib.Core.Path.{refl, sym, _∙_}
 use mathlib.Core.List.{List}
 use Prim.Native.Nat.{ℕ}
 use native.Mathlib.Omega.{arith}
-use Rattle.frame.specs.Content.{payloadOf, judged}
+use Rattle.frame.specs.Content.{judged}
 use Rattle.frame.proofs.ContentLaws.{FoundFrame, answer-refused, answer-frame, payload-part, length-payload}
 use Rattle.link.proofs.ClosingLaws.{heard, frame-refused, frame-data, frame-acknowledgement, frame-unknown}
 use Rattle.link.proofs.receiver.take_frame.Statement.{statement}

@@ -10,11 +10,11 @@ use Rattle.rows.specs.Entries as shown
 use Rattle.rows.specs.Entries.{entries, freshEntry}
 use Rattle.rows.specs.Rows.{boardOf}
 use Rattle.rows.specs.declared.Board.{Board}
-use Rattle.board.specs.WatchList.{watchNames, asWatched}
+use Rattle.board.specs.WatchList.{Good, watchNames, asWatched}
 use Rattle.board.specs.declared.list.Listed.the-variants.{Accepted}
 use Rattle.board.specs.declared.list.Watched.{Watched}
 use Rattle.board.proofs.WatchLaws as watch-laws
-use Rattle.board.proofs.EntryLaws.{fresh-entries, list-ours}
+use Rattle.board.proofs.EntryLaws.{fresh-entries, list-good}
 use Rattle.link.proofs.OursLaws.{ours-fresh}
 use Rattle.display.specs.Display as display
 use Rattle.display.specs.declared.Display.{Display}
@@ -45,7 +45,7 @@ fresh-named : (names : List (List ℕ)) → map nameOf (map unheard names) ≡ n
 fresh-named [] = refl
 fresh-named (n ∷ names) = ap (λ (l : List (List ℕ)). n ∷ l) (fresh-named names)
 
-pub fresh-agrees : (names : List (List ℕ)) → watch-laws.Ours names → Agrees names (start names) (display.fresh (boardOf names))
+pub fresh-agrees : (names : List (List ℕ)) → Good names → Agrees names (start names) (display.fresh (boardOf names))
 fresh-agrees names ours =
     record {
       ours = ours-fresh;
@@ -98,8 +98,8 @@ pub every-list : (fields : List ℕ) (d : Display) → Begins fields d → (cs :
     → IsLedgers fields cs left end
 every-list fields d begins cs left end chain =
     let b = began fields d begins in
-    let ours = list-ours fields (b .names) (b .listed) in
-    let all = chain-agrees (b .names) (ours .fit) (start (b .names)) chain (subst⁻¹ (λ (x : Display). Agrees (b .names) (start (b .names)) x) (b .is) (fresh-agrees (b .names) ours)) in
+    let ours = list-good fields (b .names) (b .listed) in
+    let all = chain-agrees (b .names) (watch-laws.good-fits (b .names) (ours .valid)) (start (b .names)) chain (subst⁻¹ (λ (x : Display). Agrees (b .names) (start (b .names)) x) (b .is) (fresh-agrees (b .names) ours)) in
     record {
       names = b .names;
       watch-list = b .listed;

@@ -6,3 +6,4 @@ pub mod StepAgreement
 pub mod Chain
 pub mod EveryList
 pub mod HistoryLaws
+pub mod OwnersWords

@@ -6,7 +6,7 @@ ghost use lib.ListN.{length};
 ghost use Rattle.packet.specs.Items.{countOf, itemsOf};
 ghost use Rattle.packet.specs.Packet.{isData, packetOf, packetItems, withHead};
 ghost use Rattle.packet.specs.Answers.{findIn, behindIn, readingOf};
-ghost use Rattle.packet.specs.Walk.{beginsWithItem, tallyOf, packetTally};
+ghost use Rattle.packet.specs.Walk.{Countable, beginsWithItem, withItem, tallyOf, packetTally};
 ghost use Rattle.packet.specs.Requests.{Writes, fitted, propertyGet, fileRequest, fetchedRequest, stopRequest};
 ghost use Rattle.packet.specs.Names.{between, isLetter, isNameByte, validName, validLocation};
 use refusals::BAD_FRAGMENT;
@@ -88,47 +88,35 @@ fn begins_with_item(rest: &[u8]) -> bool
     true
 }
 
-// Reads the items of `rest`, which stands in its packet from the place `at` on: the first item, and
-// what is left behind it by the same rule.
-fn read_items(rest: &[u8], wanted: u8, at: usize) -> Tally
-    requires { ⌜ at + length (now rest) < 2 ^ 64 ⌝ }
-    ensures { λ r. ⌜ r ≡ tallyOf at wanted (itemsOf (now (rest .entry))) ⌝ }
+fn no_items() -> Tally
+    ensures { λ r. ⌜ r ≡ Tally.Items 0 0 Found.Nothing Found.Nothing Found.Nothing ⌝ }
 {
-    if rest.len() == 0 {
-        return Tally::Items {
-            all: 0,
-            count: 0,
-            first: Found::Nothing,
-            behind: Found::Nothing,
-            head: Found::Nothing,
-        };
+    Tally::Items {
+        all: 0,
+        count: 0,
+        first: Found::Nothing,
+        behind: Found::Nothing,
+        head: Found::Nothing,
     }
-    let whole = begins_with_item(rest);
-    if !whole {
-        return Tally::Broken;
-    }
-    let kind = rest[0];
-    let length = rest[1] as usize;
-    let end = length + 2;
-    let start = at + 2;
-    let further = at + end;
+}
+
+// What is found in `rest` with `item` in front of it, which is of the wanted kind or not.
+fn with_item(item: Found, wanted: bool, rest: Tally) -> Tally
+    requires { ⌜ Countable rest ⌝ }
+    ensures { λ r. ⌜ r ≡ withItem item wanted rest ⌝ }
+{
     let Tally::Items {
         all,
         count,
         first,
         behind,
         head,
-    } = read_items(&rest[end..], wanted, further)
+    } = rest
     else {
         return Tally::Broken;
     };
-    let item = Found::At {
-        kind,
-        start,
-        length,
-    };
     let more = all + 1;
-    if kind == wanted {
+    if wanted {
         let another = count + 1;
         return Tally::Items {
             all: more,
@@ -145,6 +133,34 @@ fn read_items(rest: &[u8], wanted: u8, at: usize) -> Tally
         behind,
         head: item,
     }
+}
+
+// Reads the items of `rest`, which stands in its packet from the place `at` on: the first item, and
+// what is left behind it by the same rule. It calls itself once for each item.
+fn read_items(rest: &[u8], wanted: u8, at: usize) -> Tally
+    requires { ⌜ at + length (now rest) < 2 ^ 64 ⌝ }
+    ensures { λ r. ⌜ r ≡ tallyOf at wanted (itemsOf (now (rest .entry))) ⌝ }
+{
+    if rest.len() == 0 {
+        return no_items();
+    }
+    let whole = begins_with_item(rest);
+    if !whole {
+        return Tally::Broken;
+    }
+    let kind = rest[0];
+    let length = rest[1] as usize;
+    let end = length + 2;
+    let start = at + 2;
+    let further = at + end;
+    let behind = read_items(&rest[end..], wanted, further);
+    let item = Found::At {
+        kind,
+        start,
+        length,
+    };
+    let of_kind = kind == wanted;
+    with_item(item, of_kind, behind)
 }
 
 // Whether `s` has a data packet's first four bytes.

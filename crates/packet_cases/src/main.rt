@@ -93,7 +93,7 @@ fn cuts(s: &[u8]) {
 }
 
 // The packets of source document 000 that carry items, without their transport bytes.
-fn examples() {
+fn sent() {
     report(
         b"send a property",
         b"\x01\x09\x12\x34\x01\x04led0\x0f\x01\x01",
@@ -102,6 +102,9 @@ fn examples() {
         b"with metadata",
         b"\x01\x09\x12\x34\x34\x04key1\x05\x06value1\x01\x04led0\x0f\x01\x01",
     );
+}
+
+fn received() {
     report(
         b"receive a property",
         b"\x01\x03\x34\x56\x01\x02go\x02\x04\x00\x00\x01\x23",
@@ -246,12 +249,20 @@ fn ends(location: &[u8], out: &mut [u8]) {
     written(v, out);
 }
 
-fn requests(out: &mut [u8]) {
+fn gets(out: &mut [u8]) {
     get(b"no name", b"", out);
     get(b"get h1", b"h1", out);
+}
+
+fn files(out: &mut [u8]) {
     file(b"no location", b"", Offset::Omitted, out);
     file(b"file", b"loc", Offset::Omitted, out);
     file(b"file from", b"loc", Offset::Given(0x01020304), out);
+}
+
+fn requests(out: &mut [u8]) {
+    gets(out);
+    files(out);
     ends(b"loc", out);
 }
 
@@ -271,7 +282,8 @@ fn short() {
 }
 
 fn main() {
-    examples();
+    sent();
+    received();
     long_strings();
     fragments();
     edges();

@@ -15,9 +15,10 @@ use refusals::BAD_NAME;
 use refusals::NO_DATA_PACKET;
 use refusals::SHORT_OUTPUT;
 
-// The first byte of a data packet, and the number of bytes before its items.
+// A data packet's first byte.
 const DATA: u8 = 1;
 
+// The bytes before a packet's items: 01, opcode, request id.
 const HEAD_LENGTH: usize = 4;
 
 const LONGEST_NAME: usize = 27;
@@ -136,7 +137,8 @@ fn with_item(item: Found, wanted: bool, rest: Tally) -> Tally
 }
 
 // Reads the items of `rest`, which stands in its packet from the place `at` on: the first item, and
-// what is left behind it by the same rule. It calls itself once for each item.
+// what is left behind it by the same rule. It calls itself once for each item, of which a packet
+// from the link has at most 189.
 fn read_items(rest: &[u8], wanted: u8, at: usize) -> Tally
     requires { ⌜ at + length (now rest) < 2 ^ 64 ⌝ }
     ensures { λ r. ⌜ r ≡ tallyOf at wanted (itemsOf (now (rest .entry))) ⌝ }
@@ -173,7 +175,8 @@ fn is_data(s: &[u8]) -> bool
     s[0] == DATA
 }
 
-// What the item reader finds in a packet; `Broken` where the packet is refused.
+// What the item reader finds in a packet; `Broken` where the packet is refused. Whether it is does
+// not depend on the kind.
 fn tally_packet(s: &[u8], kind: u8) -> Tally
     ensures { λ r. ⌜ r ≡ packetTally kind (now (s .entry)) ⌝ }
 {
@@ -213,7 +216,7 @@ pub fn count_all(s: &[u8]) -> usize
     all
 }
 
-// How many items of the kind a packet has.
+// How many items of the kind a packet has; a refused one has none.
 pub fn count(s: &[u8], kind: u8) -> usize
     ensures { λ r. ⌜ r ≡ countOf kind (packetItems (now (s .entry))) ⌝ }
 {
@@ -223,7 +226,7 @@ pub fn count(s: &[u8], kind: u8) -> usize
     count
 }
 
-// The first item of the kind in a packet.
+// The first item of the kind in a packet; in a refused one nothing is found.
 pub fn find(s: &[u8], kind: u8) -> Found
     ensures { λ r. ⌜ r ≡ findIn 4 kind (packetItems (now (s .entry))) ⌝ }
 {
@@ -233,7 +236,7 @@ pub fn find(s: &[u8], kind: u8) -> Found
     first
 }
 
-// The item right behind the first item of the kind in a packet.
+// The item right behind the first item of the kind in a packet; in a refused one nothing is found.
 pub fn behind(s: &[u8], kind: u8) -> Found
     ensures { λ r. ⌜ r ≡ behindIn 4 kind (packetItems (now (s .entry))) ⌝ }
 {
@@ -269,7 +272,7 @@ fn is_name_byte(byte: u8) -> bool
     byte == b'-' || byte == b'_'
 }
 
-// Whether a name is valid.
+// Whether a name is valid: 1 to 27 letters, digits, hyphens and underscores, the first a letter.
 pub fn valid_name(name: &[u8]) -> bool
     ensures { λ r. ⌜ r ≡ validName (now (name .entry)) ⌝ }
 {
@@ -294,7 +297,7 @@ pub fn valid_name(name: &[u8]) -> bool
     true
 }
 
-// Whether a location is valid.
+// Whether a location is valid: 1 to 64 bytes.
 pub fn valid_location(location: &[u8]) -> bool
     ensures { λ r. ⌜ r ≡ validLocation (now (location .entry)) ⌝ }
 {
@@ -302,8 +305,8 @@ pub fn valid_location(location: &[u8]) -> bool
     1 <= length && length <= LONGEST_LOCATION
 }
 
-// What a request writer answers: how many bytes it wrote at the start of the output, or the number of
-// the refusal.
+// What a request writer answers: how many bytes it wrote at the start of the output, or the number
+// of the refusal.
 pub enum Written {
     Length(usize),
     Refused(u8),
@@ -315,7 +318,8 @@ pub enum Offset {
     Omitted,
 }
 
-// Writes a data packet whose items are the three strings joined, if the output has room for it.
+// Writes a data packet whose items are the three strings joined, if the output has room for it: the
+// shared end of the four requests.
 fn write_packet(
     opcode: u8,
     id: u16,

@@ -9,7 +9,7 @@ use lib.ListN.{getD, set}
 use borrow.Author.Tests.{ne-eqb}
 use Rattle.link.specs.Counts.{plusOne, plusOneAt, countOf}
 use Rattle.link.specs.declared.counts.Event.the-variants as event
-use Rattle.ledger.specs.Ledger.{Counts, moreAt, moreOf}
+use Rattle.ledger.specs.Ledger.{Counts, moreAt, moreOf, plusNew, plusAgain, plusHeard, plusUnread, plusRefused}
 use Rattle.ledger.specs.Shown.{wrapped, asCounts}
 
 wraps : (n : ℕ) → plusOne (wrapped n) ≡ wrapped (suc n)
@@ -30,18 +30,17 @@ wraps-of (suc n) counts =
     rw (ne-eqb (suc n) 0 some, place) (wraps-at n counts)
 
 module _ (c : Counts) where
-  pub count-new : countOf event.New (asCounts c) ≡ asCounts (record { new = suc (c .new); again = c .again; heard = c .heard; unread = c .unread; refused = c .refused })
+  pub count-new : countOf event.New (asCounts c) ≡ asCounts (plusNew c)
   count-new = rw (wraps (c .new))
 
-  pub count-again : countOf event.Again (asCounts c) ≡ asCounts (record { new = c .new; again = suc (c .again); heard = c .heard; unread = c .unread; refused = c .refused })
+  pub count-again : countOf event.Again (asCounts c) ≡ asCounts (plusAgain c)
   count-again = rw (wraps (c .again))
 
-  pub count-heard : countOf event.Heard (asCounts c) ≡ asCounts (record { new = c .new; again = c .again; heard = suc (c .heard); unread = c .unread; refused = c .refused })
+  pub count-heard : countOf event.Heard (asCounts c) ≡ asCounts (plusHeard c)
   count-heard = rw (wraps (c .heard))
 
-  pub count-unread : countOf event.Unread (asCounts c) ≡ asCounts (record { new = c .new; again = c .again; heard = c .heard; unread = suc (c .unread); refused = c .refused })
+  pub count-unread : countOf event.Unread (asCounts c) ≡ asCounts (plusUnread c)
   count-unread = rw (wraps (c .unread))
 
-  pub count-refused : (n : ℕ)
-      → countOf (event.Refused n) (asCounts c) ≡ asCounts (record { new = c .new; again = c .again; heard = c .heard; unread = c .unread; refused = moreOf n (c .refused) })
+  pub count-refused : (n : ℕ) → countOf (event.Refused n) (asCounts c) ≡ asCounts (plusRefused n c)
   count-refused n = rw (wraps-of n (c .refused))

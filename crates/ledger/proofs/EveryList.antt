@@ -41,7 +41,7 @@ fresh-shown : (names : List (List ℕ)) → map freshEntry names ≡ map asEntry
 fresh-shown [] = refl
 fresh-shown (n ∷ names) = ap (λ (l : List shown.Entry). freshEntry n ∷ l) (fresh-shown names)
 
-fresh-named : (names : List (List ℕ)) → map nameOf (map unheard names) ≡ names
+pub fresh-named : (names : List (List ℕ)) → map nameOf (map unheard names) ≡ names
 fresh-named [] = refl
 fresh-named (n ∷ names) = ap (λ (l : List (List ℕ)). n ∷ l) (fresh-named names)
 

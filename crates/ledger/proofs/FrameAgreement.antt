@@ -1,6 +1,6 @@
 -- What a closed frame does to link and board is what it does to the ledger: by what the frame is, and for a new packet by what the
 -- board reads in it.
-use mathlib.Core.Path.{_≡_, refl, sym, ap, _∙_}
+use mathlib.Core.Path.{_≡_, refl, sym, ap, _∙_, subst⁻¹}
 use mathlib.Core.Bool.{Bool, true, false, cond}
 use mathlib.Core.List.{List, [], _∷_, _++_, map}
 use mathlib.Core.Option.{Option, some, none}
@@ -22,21 +22,24 @@ use Rattle.board.specs.declared.reading.Answer.the-variants as board-says
 use Rattle.board.proofs.WatchLaws.{Fits}
 use Rattle.board.proofs.EntryLaws.{There, read-entries, read-refused, read-end, read-update, update-there}
 use Rattle.link.specs.Closing.{Outcome, dataType, acknowledgementType, acknowledgement, repeats, acknowledgementFrame, againFrame, newFrame, dataFrame, refusedFrame, readOutcome}
-use Rattle.link.specs.Receiving.{Call, callOf}
+use Rattle.link.specs.Receiving.{callOf, withUnreadPacket}
+use Rattle.link.specs.declared.receiver.Link.{Link}
 use Rattle.link.specs.Walk.{Walk}
 use Rattle.link.specs.Counts.{countOf}
 use Rattle.link.specs.declared.counts.Counts as link-counts
 use Rattle.link.specs.declared.counts.Event.the-variants as event
 use Rattle.link.specs.declared.receiver.Answer.the-variants as link-says
 use Rattle.link.specs.declared.receiver.Last.{Last}
-use Rattle.display.specs.Display.{received, takeReading, resultOf}
+use Rattle.display.specs.Display.{countReading, keepBoard, received, takeReading, resultOf}
+use Rattle.display.specs.declared.Answer as display-answer
+use Rattle.display.specs.declared.Answer.the-variants as says
 use Rattle.display.specs.declared.Received.{Received}
 use Rattle.ledger.specs.Ledger.{Entry, Ledger, nameOf}
 use Rattle.ledger.specs.Frames as frames
 use Rattle.ledger.specs.Frames.{Frame, byType}
 use Rattle.ledger.specs.Calls as calls
 use Rattle.ledger.specs.Calls.{Effect, repeated, closed, afterNew, afterReading}
-use Rattle.ledger.specs.Shown.{asCounts, asLast, asEntry, asReading, asAnswer}
+use Rattle.ledger.specs.Shown.{asCounts, asLast, asEntry, asPlace, asReading, asAnswer}
 use Rattle.ledger.proofs.CountAgreement.{count-new, count-again, count-heard, count-unread, count-refused}
 use Rattle.ledger.proofs.RowAgreement.{entries-updated, names-updated, row-names-update, row-names-fresh, place-listed}
 
@@ -95,48 +98,34 @@ module _ (names : List (List ℕ)) (fit : Fits names) (w : Walk) (l : Ledger) (b
   abbrev Agreed : Outcome → Effect → Type 0
   Agreed o e = Effects names w (resultFor o) (o .reply) (o .packet) e
 
-  refused-agrees : (n : ℕ) → Agreed (outcome (frames.refused n)) (closed l (frames.refused n))
-  refused-agrees n =
-      record {
-        answers = refl;
-        replied = refl;
-        handed = refl;
+  -- a call that leaves the board as it was
+  kept-agrees : (o : Outcome) (e : Effect) (said : display-answer.Answer) → resultFor o ≡ keepBoard (received (callOf w o)) board said
+      → said ≡ asAnswer names (e .answer) → o .reply ≡ e .reply → o .packet ≡ e .packet → o .last ≡ asLast (e .ledger .sequence)
+      → o .counts ≡ asCounts (e .ledger .counts) → e .ledger .entries ≡ l .entries → Agreed o e
+  kept-agrees o e said is answer reply packet last counts same =
+      rw is
+      (record {
+        answers = answer;
+        replied = reply;
+        handed = packet;
         counted = refl;
         content-is = refl;
         reader-is = refl;
-        last-is = refl;
-        counts-are = count-refused (l .counts) n;
-        shows = shows₀;
-      }
+        last-is = last;
+        counts-are = counts;
+        shows = rw same shows₀;
+      })
+
+  refused-agrees : (n : ℕ) → Agreed (outcome (frames.refused n)) (closed l (frames.refused n))
+  refused-agrees n = kept-agrees (outcome (frames.refused n)) _ (says.Refused n) refl refl refl refl refl (count-refused (l .counts) n) refl
 
   heard-agrees : (sequence : ℕ) → Agreed (outcome (frames.acknowledgement sequence)) (closed l (frames.acknowledgement sequence))
-  heard-agrees sequence =
-      record {
-        answers = refl;
-        replied = refl;
-        handed = refl;
-        counted = refl;
-        content-is = refl;
-        reader-is = refl;
-        last-is = refl;
-        counts-are = count-heard (l .counts);
-        shows = shows₀;
-      }
+  heard-agrees sequence = kept-agrees (outcome (frames.acknowledgement sequence)) _ (says.Heard sequence) refl refl refl refl refl (count-heard (l .counts)) refl
 
   again-agrees : (sequence : ℕ) → Agreed (againFrame sequence (asLast (l .sequence)) (asCounts (l .counts))) (calls.repeatedFrame l sequence)
   unfolding acknowledgement
   again-agrees sequence =
-      record {
-        answers = refl;
-        replied = refl;
-        handed = refl;
-        counted = refl;
-        content-is = refl;
-        reader-is = refl;
-        last-is = refl;
-        counts-are = count-again (l .counts);
-        shows = shows₀;
-      }
+      kept-agrees (againFrame sequence (asLast (l .sequence)) (asCounts (l .counts))) _ (says.Again (length (acknowledgement sequence))) refl refl refl refl refl (count-again (l .counts)) refl
 
   -- a new packet, by what the board reads in it
   module _ (sequence : ℕ) (payload : List ℕ) where
@@ -156,35 +145,33 @@ module _ (names : List (List ℕ)) (fit : Fits names) (w : Walk) (l : Ledger) (b
     AgreedBy r v =
         Effects names w (takeReading (received (callOf w fresh)) (length (acknowledgement sequence)) (length payload) r) (acknowledgement sequence) payload (effectBy v)
 
-    unread-agrees : (n : ℕ) → AgreedBy (record { board = board; answer = board-says.Refused n }) (reading.refused n)
+    -- one that has been read, by the link's state that it leaves
+    read-agrees : (r : declared-reading.Reading) (v : Verdict) (state : Link) → countReading (callOf w fresh .link) (r .answer) ≡ state
+        → r .answer ≡ asReading names v → state .content ≡ w .content → state .reader ≡ w .reader
+        → state .last ≡ asLast (effectBy v .ledger .sequence) → state .counts ≡ asCounts (effectBy v .ledger .counts)
+        → Shows names (effectBy v .ledger .entries) (r .board) → AgreedBy r v
     unfolding acknowledgement
-    unread-agrees n =
-        record {
+    read-agrees r v state leaves answer of-content of-reader of-last of-counts shows₁ =
+        rw (leaves, answer)
+        (record {
           answers = refl;
           replied = refl;
           handed = refl;
           counted = refl;
-          content-is = refl;
-          reader-is = refl;
-          last-is = refl;
-          counts-are = ap (countOf event.Unread) (count-new (l .counts)) ∙ count-unread (afterNew l sequence .counts);
-          shows = shows₀;
-        }
+          content-is = of-content;
+          reader-is = of-reader;
+          last-is = of-last;
+          counts-are = of-counts;
+          shows = shows₁;
+        })
+
+    unread-agrees : (n : ℕ) → AgreedBy (record { board = board; answer = board-says.Refused n }) (reading.refused n)
+    unread-agrees n =
+        read-agrees _ (reading.refused n) (withUnreadPacket (callOf w fresh .link)) refl refl refl refl refl
+        (ap (countOf event.Unread) (count-new (l .counts)) ∙ count-unread (afterNew l sequence .counts)) shows₀
 
     end-agrees : AgreedBy (record { board = board; answer = board-says.EndMark }) reading.endMark
-    unfolding acknowledgement
-    end-agrees =
-        record {
-          answers = refl;
-          replied = refl;
-          handed = refl;
-          counted = refl;
-          content-is = refl;
-          reader-is = refl;
-          last-is = refl;
-          counts-are = count-new (l .counts);
-          shows = shows₀;
-        }
+    end-agrees = read-agrees _ reading.endMark (callOf w fresh .link) refl refl refl refl refl (count-new (l .counts)) shows₀
 
     -- the row of an update is its name's place in the watch list
     place-is : (name : List ℕ) → (t : There board name) → placeOf name names ≡ some (t .place)
@@ -195,29 +182,20 @@ module _ (names : List (List ℕ)) (fit : Fits names) (w : Walk) (l : Ledger) (b
 
     update-agrees : (name : List ℕ) (value : ℤ) (t : There board name) → readingOf (watched board) payload ≡ reading.update name value
         → AgreedBy (record { board = updateBoard (t .place) value board; answer = board-says.Updated (t .place) }) (reading.update name value)
-    unfolding acknowledgement entriesAfter
+    unfolding entriesAfter
     update-agrees name value t e =
         let is = read-update board payload name value (t .place) e (t .stands) in
         let after : entries (updateBoard (t .place) value board) ≡ updateEntries name value (entries board) =
         sym (ap (λ (r : declared-reading.Reading). entries (r .board)) is)
         ∙ read-entries board payload
         ∙ ap (λ (v : Verdict). entriesAfter v (entries board)) e in
-        record {
-          answers = rw (place-is name t);
-          replied = refl;
-          handed = refl;
-          counted = refl;
-          content-is = refl;
-          reader-is = refl;
-          last-is = refl;
-          counts-are = count-new (l .counts);
-          shows =
-              record {
-                rows-show = after ∙ ap (updateEntries name value) (shows₀ .rows-show) ∙ entries-updated name value (l .entries);
-                named = names-updated name value (l .entries) ∙ shows₀ .named;
-                in-rows = row-names-update (t .place) value board ∙ shows₀ .in-rows;
-              };
-        }
+        let here = ap asPlace (place-is name t) in
+        read-agrees _ (reading.update name value) (callOf w fresh .link) refl (sym here) refl refl refl (count-new (l .counts))
+        (record {
+          rows-show = after ∙ ap (updateEntries name value) (shows₀ .rows-show) ∙ entries-updated name value (l .entries);
+          named = names-updated name value (l .entries) ∙ shows₀ .named;
+          in-rows = row-names-update (t .place) value board ∙ shows₀ .in-rows;
+        })
 
     new-agrees : Agreed fresh (calls.newFrame l sequence payload)
     new-agrees = by-verdict (readingOf (map nameOf (l .entries)) payload) refl
@@ -257,19 +235,9 @@ module _ (names : List (List ℕ)) (fit : Fits names) (w : Walk) (l : Ledger) (b
       by-last false = new-agrees sequence payload
 
   -- a call that closed none
-  pub nothing-agrees : (o : Outcome)
-      → o ≡ record { last = asLast (l .sequence); counts = asCounts (l .counts); answer = link-says.Nothing; reply = []; packet = [] }
+  abbrev nothingDone : Outcome
+  nothingDone = record { last = asLast (l .sequence); counts = asCounts (l .counts); answer = link-says.Nothing; reply = []; packet = [] }
+
+  pub nothing-agrees : (o : Outcome) → o ≡ nothingDone
       → Agreed o (record { ledger = l; answer = calls.nothing; reply = []; packet = [] })
-  nothing-agrees o e =
-      rw e
-      (record {
-        answers = refl;
-        replied = refl;
-        handed = refl;
-        counted = refl;
-        content-is = refl;
-        reader-is = refl;
-        last-is = refl;
-        counts-are = refl;
-        shows = shows₀;
-      })
+  nothing-agrees o e = subst⁻¹ (λ (x : Outcome). Agreed x (record { ledger = l; answer = calls.nothing; reply = []; packet = [] })) e (kept-agrees nothingDone _ says.Nothing refl refl refl refl refl refl refl)

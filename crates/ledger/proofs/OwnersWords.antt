@@ -23,13 +23,13 @@ use Rattle.board.proofs.WatchLaws.{both-left, both-right}
 use Rattle.display.specs.declared.Display.{Display}
 use Rattle.ledger.specs.Ledger.{Update, Entry, Ledger, unheard, nameOf, start, updated, older, olderEntry, Row, never, current, silent, rowOf}
 use Rattle.ledger.specs.Frames as frames
-use Rattle.ledger.specs.Frames.{Frame, taken, frameOf}
+use Rattle.ledger.specs.Frames.{Frame, Taken, taken, frameOf}
 use Rattle.ledger.specs.Calls as calls
 use Rattle.ledger.specs.Calls.{Call, Given, Effect, repeated, closed, effectOf, withRun, pieceStep, shortStep, step, given, after}
 use Rattle.ledger.specs.History.{Event, history, Handed, handedOut, afterHistory, handedInHistory, byReading, byAnswer, byGiven, lastUpdate}
 use Rattle.ledger.specs.Shown.{asCounts, asState, asEntry, Left}
 use Rattle.ledger.proofs.Chain.{Begins, Chain}
-use Rattle.ledger.proofs.EveryList.{IsLedgers, every-list}
+use Rattle.ledger.proofs.EveryList.{every-list, fresh-named}
 use Rattle.ledger.proofs.HistoryLaws.{after-history, handed-history}
 
 -- ---- cuts
@@ -40,7 +40,7 @@ pub record Alike (names : List (List ℕ)) (cs cs₁ : List Call) (end end₁ : 
   pub counts : end .link .counts ≡ end₁ .link .counts
   pub rows : entries (end .board) ≡ entries (end₁ .board)
 
-same-names : {fields : List ℕ} {names names₁ : List (List ℕ)} → watchNames fields ≡ some names → watchNames fields ≡ some names₁ → names₁ ≡ names
+same-names : {found : Option (List (List ℕ))} {names names₁ : List (List ℕ)} → found ≡ some names → found ≡ some names₁ → names₁ ≡ names
 same-names a b = cc
 
 -- THEOREM. Lists of calls with the same watch list and the same history agree in replies, packets, counts and board, wherever the
@@ -53,17 +53,17 @@ same-history fields names listed d d₁ b b₁ cs cs₁ left left₁ end end₁ 
     let two = every-list fields d₁ b₁ cs₁ left₁ end₁ c₁ in
     let l = start names in
     let ledgers : after l cs ≡ after l cs₁ =
-      after-history l cs ∙ ap (λ (h : List Event). afterHistory l h) same ∙ sym (after-history l cs₁) in
+    after-history l cs ∙ ap (λ (h : List Event). afterHistory l h) same ∙ sym (after-history l cs₁) in
     record {
       handed = handed-history l cs ∙ ap (λ (h : List Event). handedInHistory l h) same ∙ sym (handed-history l cs₁);
       counts =
-        rw (same-names listed (one .watch-list)) at (one .counts)
-        ∙ ap (λ (m : Ledger). asCounts (m .counts)) ledgers
-        ∙ sym (rw (same-names listed (two .watch-list)) at (two .counts));
+          rw (same-names listed (one .watch-list)) at (one .counts)
+          ∙ ap (λ (m : Ledger). asCounts (m .counts)) ledgers
+          ∙ sym (rw (same-names listed (two .watch-list)) at (two .counts));
       rows =
-        rw (same-names listed (one .watch-list)) at (one .board)
-        ∙ ap (λ (m : Ledger). map asEntry (m .entries)) ledgers
-        ∙ sym (rw (same-names listed (two .watch-list)) at (two .board));
+          rw (same-names listed (one .watch-list)) at (one .board)
+          ∙ ap (λ (m : Ledger). map asEntry (m .entries)) ledgers
+          ∙ sym (rw (same-names listed (two .watch-list)) at (two .board));
     }
 
 -- ---- repeated at once
@@ -146,16 +146,19 @@ step-followed : (l : Ledger) (c : Call) → distinct (map nameOf (l .entries)) �
 unfolding step
 step-followed l (calls.piece bytes reply packet) once = by-room (ltb (length reply) 9 || ltb (length packet) 383)
   where
-    by-frame : (run : Option (List ℕ)) (n : ℕ) (frame : Option (List ℕ)) (r p : List ℕ)
-        → effectOf (withRun l run) frame .ledger .entries ≡ map (followedBy (calls.took n (effectOf (withRun l run) frame .answer) r p)) (l .entries)
-    by-frame run n none r p = sym (kept-all (l .entries))
-    by-frame run n (some bytes₁) r p = frame-followed (withRun l run) (frameOf bytes₁) n r p once
+    by-frame : (t : Taken) → pieceStep l t reply packet .ledger .entries ≡ map (followedBy (pieceStep l t reply packet .given)) (l .entries)
+    by-frame t = at-frame (t .frame) refl
+      where
+        at-frame : (frame : Option (List ℕ)) → t .frame ≡ frame
+            → pieceStep l t reply packet .ledger .entries ≡ map (followedBy (pieceStep l t reply packet .given)) (l .entries)
+        at-frame none e = rw e (sym (kept-all (l .entries)))
+        at-frame (some bytes₁) e = rw e (frame-followed (withRun l (t .run)) (frameOf bytes₁) (t .count) reply packet once)
 
     by-room : (t : Bool)
         → cond t (shortStep l reply packet) (pieceStep l (taken (l .run) bytes 0) reply packet) .ledger .entries
         ≡ map (followedBy (cond t (shortStep l reply packet) (pieceStep l (taken (l .run) bytes 0) reply packet) .given)) (l .entries)
     by-room true = sym (kept-all (l .entries))
-    by-room false = by-frame (taken (l .run) bytes 0 .run) (taken (l .run) bytes 0 .count) (taken (l .run) bytes 0 .frame) _ _
+    by-room false = by-frame (taken (l .run) bytes 0)
 step-followed l calls.tick once = refl
 
 names-followed : (g : Given) (es : List Entry) → map nameOf (map (followedBy g) es) ≡ map nameOf es
@@ -185,10 +188,6 @@ rows-followed : (gs : List Given) (names : List (List ℕ)) → map asEntry (map
 rows-followed gs [] = refl
 rows-followed gs (n ∷ names) = ap (λ (l : List shown.Entry). rowAfter gs n ∷ l) (rows-followed gs names)
 
-start-named : (names : List (List ℕ)) → map nameOf (map unheard names) ≡ names
-start-named [] = refl
-start-named (n ∷ names) = ap (λ (l : List (List ℕ)). n ∷ l) (start-named names)
-
 -- THEOREM. After every list of calls the row of each watched name shows the value of the last accepted update of its name and the
 -- ticks since, as 01 says.
 pub rows-show-last-update : (fields : List ℕ) (names : List (List ℕ)) → watchNames fields ≡ some names → (d : Display) → Begins fields d
@@ -197,7 +196,7 @@ pub rows-show-last-update : (fields : List ℕ) (names : List (List ℕ)) → wa
 rows-show-last-update fields names listed d begins cs left end chain =
     let all = every-list fields d begins cs left end chain in
     let good = list-good fields names listed in
-    let once = ap distinct (start-named names) ∙ good .once in
+    let once = ap distinct (fresh-named names) ∙ good .once in
     rw (same-names listed (all .watch-list)) at (all .board)
     ∙ ap (map asEntry) (after-followed (start names) cs once)
     ∙ rows-followed (given (start names) cs) names

@@ -10,7 +10,7 @@ use Rattle.slices.specs.Put.{putAt}
 use Rattle.frame.specs.Writing as writing
 use Rattle.board.specs.Reading as reading
 use Rattle.board.specs.Reading.{Verdict, readingOf}
-use Rattle.ledger.specs.Ledger.{Counts, Entry, Ledger, nameOf, moreOf, updated, olderEntry}
+use Rattle.ledger.specs.Ledger.{Counts, Entry, Ledger, nameOf, plusNew, plusAgain, plusHeard, plusUnread, plusRefused, updated, olderEntry}
 use Rattle.ledger.specs.Frames as frames
 use Rattle.ledger.specs.Frames.{Frame, Taken, taken, frameOf}
 
@@ -47,7 +47,7 @@ withCounts l counts = record { run = l .run; sequence = l .sequence; counts = co
 abbrev pub refusedFrame : Ledger → ℕ → Effect
 refusedFrame l n =
     record {
-      ledger = withCounts l (record { new = l .counts .new; again = l .counts .again; heard = l .counts .heard; unread = l .counts .unread; refused = moreOf n (l .counts .refused) });
+      ledger = withCounts l (plusRefused n (l .counts));
       answer = refused n;
       reply = [];
       packet = [];
@@ -57,7 +57,7 @@ refusedFrame l n =
 abbrev pub heardFrame : Ledger → ℕ → Effect
 heardFrame l sequence =
     record {
-      ledger = withCounts l (record { new = l .counts .new; again = l .counts .again; heard = suc (l .counts .heard); unread = l .counts .unread; refused = l .counts .refused });
+      ledger = withCounts l (plusHeard (l .counts));
       answer = heard sequence;
       reply = [];
       packet = [];
@@ -75,7 +75,7 @@ repeated (some before) sequence = cond (eqb sequence 0) false (eqb sequence befo
 abbrev pub repeatedFrame : Ledger → ℕ → Effect
 repeatedFrame l sequence =
     record {
-      ledger = withCounts l (record { new = l .counts .new; again = suc (l .counts .again); heard = l .counts .heard; unread = l .counts .unread; refused = l .counts .refused });
+      ledger = withCounts l (plusAgain (l .counts));
       answer = again sequence;
       reply = answerTo sequence;
       packet = [];
@@ -84,7 +84,7 @@ repeatedFrame l sequence =
 -- refused by the board, unread plus 1; end mark, nothing; all else is an accepted update, 0 ticks old
 abbrev pub afterReading : Ledger → Verdict → Ledger
 afterReading l (reading.refused n) =
-    withCounts l (record { new = l .counts .new; again = l .counts .again; heard = l .counts .heard; unread = suc (l .counts .unread); refused = l .counts .refused })
+    withCounts l (plusUnread (l .counts))
 afterReading l reading.endMark = l
 afterReading l (reading.update name value) =
     record { run = l .run; sequence = l .sequence; counts = l .counts; entries = updated name value (l .entries) }
@@ -95,7 +95,7 @@ afterNew l sequence =
     record {
       run = l .run;
       sequence = some sequence;
-      counts = record { new = suc (l .counts .new); again = l .counts .again; heard = l .counts .heard; unread = l .counts .unread; refused = l .counts .refused };
+      counts = plusNew (l .counts);
       entries = l .entries;
     }
 

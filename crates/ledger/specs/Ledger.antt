@@ -57,6 +57,22 @@ abbrev pub moreOf : ℕ → List ℕ → List ℕ
 moreOf zero counts = counts
 moreOf (suc n) counts = moreAt n counts
 
+-- one more in one of the counts
+abbrev pub plusNew : Counts → Counts
+plusNew c = record { new = suc (c .new); again = c .again; heard = c .heard; unread = c .unread; refused = c .refused }
+
+abbrev pub plusAgain : Counts → Counts
+plusAgain c = record { new = c .new; again = suc (c .again); heard = c .heard; unread = c .unread; refused = c .refused }
+
+abbrev pub plusHeard : Counts → Counts
+plusHeard c = record { new = c .new; again = c .again; heard = suc (c .heard); unread = c .unread; refused = c .refused }
+
+abbrev pub plusUnread : Counts → Counts
+plusUnread c = record { new = c .new; again = c .again; heard = c .heard; unread = suc (c .unread); refused = c .refused }
+
+abbrev pub plusRefused : ℕ → Counts → Counts
+plusRefused n c = record { new = c .new; again = c .again; heard = c .heard; unread = c .unread; refused = moreOf n (c .refused) }
+
 -- an accepted update of a name, 0 ticks old
 unfoldable pub updated : List ℕ → ℤ → List Entry → List Entry
 updated name value [] = []

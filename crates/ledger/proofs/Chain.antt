@@ -20,8 +20,9 @@ use Rattle.display.specs.declared.Received.{Received}
 use Rattle.display.proofs.receive.Reads as receive
 use Rattle.display.proofs.start.Reads as start
 use Rattle.display.proofs.tick.Reads as tick
+use Rattle.ledger.specs.Answers as answers
 use Rattle.ledger.specs.Calls as calls
-use Rattle.ledger.specs.Calls.{Call}
+use Rattle.ledger.specs.Answers.{Call}
 use Rattle.ledger.specs.Shown.{Left, took, ticked}
 
 -- one call of `display::receive`: the slices lent hold the piece and the buffers as they were, and at exit the buffers as they are
@@ -58,8 +59,8 @@ pub data Chain : Display → List Call → List Left → Display → Type 0 wher
   done : {d : Display} → Chain d [] [] d
   receives : {d d₁ : Display} {bytes reply packet reply₁ packet₁ : List ℕ} {result : Received} {cs : List Call} {left : List Left}
       → Receives d bytes reply packet result reply₁ packet₁ → Chain (result .display) cs left d₁
-      → Chain d (calls.piece bytes reply packet ∷ cs) (took (result .taken) (result .answer) reply₁ packet₁ ∷ left) d₁
-  ticks : {d d₁ d₂ : Display} {cs : List Call} {left : List Left} → Ticks d d₁ → Chain d₁ cs left d₂ → Chain d (calls.tick ∷ cs) (ticked ∷ left) d₂
+      → Chain d (answers.piece bytes reply packet ∷ cs) (took (result .taken) (result .answer) reply₁ packet₁ ∷ left) d₁
+  ticks : {d d₁ d₂ : Display} {cs : List Call} {left : List Left} → Ticks d d₁ → Chain d₁ cs left d₂ → Chain d (answers.tick ∷ cs) (ticked ∷ left) d₂
 
 -- what such a call did, by the contract
 pub received : {d : Display} {bytes reply packet reply₁ packet₁ : List ℕ} {result : Received} → Receives d bytes reply packet result reply₁ packet₁
@@ -98,11 +99,11 @@ received-by d bytes reply packet =
 
 pub every-list-runs : (d : Display) (cs : List Call) → Runs d cs
 every-list-runs d [] = record { left = []; end = d; chain = done }
-every-list-runs d (calls.piece bytes reply packet ∷ cs) =
+every-list-runs d (answers.piece bytes reply packet ∷ cs) =
     let first = received-by d bytes reply packet in
     let rest = every-list-runs (receivePiece d bytes (length reply) (length packet) .result .display) cs in
     record { left = _ ∷ rest .left; end = rest .end; chain = receives first (rest .chain) }
-every-list-runs d (calls.tick ∷ cs) =
+every-list-runs d (answers.tick ∷ cs) =
     let rest = every-list-runs (tickDisplay d) cs in
     record { left = ticked ∷ rest .left; end = rest .end; chain = ticks refl (rest .chain) }
 

@@ -19,8 +19,9 @@ use Rattle.link.proofs.OursLaws.{ours-fresh}
 use Rattle.display.specs.Display as display
 use Rattle.display.specs.declared.Display.{Display}
 use Rattle.ledger.specs.Ledger.{Entry, Ledger, unheard, nameOf, start}
-use Rattle.ledger.specs.Calls as calls
-use Rattle.ledger.specs.Calls.{Call, step, given, after}
+use Rattle.ledger.specs.Answers as answers
+use Rattle.ledger.specs.Answers.{Call}
+use Rattle.ledger.specs.Calls.{step, given, after}
 use Rattle.ledger.specs.Shown.{asCounts, asEntry, Left, asLeft}
 use Rattle.ledger.proofs.FrameAgreement.{Shows}
 use Rattle.ledger.proofs.StepAgreement.{Agrees, Gives, piece-agrees, tick-agrees}
@@ -86,11 +87,11 @@ unfolding given after
 chain-agrees names fit l done a = record { gives = refl; agrees = a }
 chain-agrees names fit l (receives {d = d} {bytes = bytes} {reply = reply} {packet = packet} r rest) a =
     let first = piece-agrees names fit l d a bytes reply packet _ _ _ (received r) in
-    let more = chain-agrees names fit (step l (calls.piece bytes reply packet) .ledger) rest (first .agrees) in
+    let more = chain-agrees names fit (step l (answers.piece bytes reply packet) .ledger) rest (first .agrees) in
     record { gives = ap₂ (λ (x : Left) (xs : List Left). x ∷ xs) (first .gives) (more .gives); agrees = more .agrees }
 chain-agrees names fit l (ticks {d = d} t rest) a =
     let first = tick-agrees names l d a in
-    let more = chain-agrees names fit (step l calls.tick .ledger) rest (rw t (first .agrees)) in
+    let more = chain-agrees names fit (step l answers.tick .ledger) rest (rw t (first .agrees)) in
     record { gives = ap₂ (λ (x : Left) (xs : List Left). x ∷ xs) (first .gives) (more .gives); agrees = more .agrees }
 
 -- THEOREM. Every list of calls is the ledger's.

@@ -37,6 +37,7 @@ use Rattle.display.specs.declared.Received.{Received}
 use Rattle.ledger.specs.Ledger.{Entry, Ledger, nameOf}
 use Rattle.ledger.specs.Frames as frames
 use Rattle.ledger.specs.Frames.{Frame, byType}
+use Rattle.ledger.specs.Answers as answers
 use Rattle.ledger.specs.Calls as calls
 use Rattle.ledger.specs.Calls.{Effect, repeated, closed, afterNew, afterReading}
 use Rattle.ledger.specs.Shown.{asCounts, asLast, asEntry, asPlace, asReading, asAnswer}
@@ -136,7 +137,7 @@ module _ (names : List (List ℕ)) (fit : Fits names) (w : Walk) (l : Ledger) (b
     effectBy v =
         record {
           ledger = afterReading (afterNew l sequence) v;
-          answer = calls.new sequence payload v;
+          answer = answers.new sequence payload v;
           reply = calls.answerTo sequence;
           packet = payload;
         }
@@ -239,5 +240,5 @@ module _ (names : List (List ℕ)) (fit : Fits names) (w : Walk) (l : Ledger) (b
   nothingDone = record { last = asLast (l .sequence); counts = asCounts (l .counts); answer = link-says.Nothing; reply = []; packet = [] }
 
   pub nothing-agrees : (o : Outcome) → o ≡ nothingDone
-      → Agreed o (record { ledger = l; answer = calls.nothing; reply = []; packet = [] })
-  nothing-agrees o e = subst⁻¹ (λ (x : Outcome). Agreed x (record { ledger = l; answer = calls.nothing; reply = []; packet = [] })) e (kept-agrees nothingDone _ says.Nothing refl refl refl refl refl refl refl)
+      → Agreed o (record { ledger = l; answer = answers.nothing; reply = []; packet = [] })
+  nothing-agrees o e = subst⁻¹ (λ (x : Outcome). Agreed x (record { ledger = l; answer = answers.nothing; reply = []; packet = [] })) e (kept-agrees nothingDone _ says.Nothing refl refl refl refl refl refl refl)

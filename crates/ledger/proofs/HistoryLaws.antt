@@ -10,8 +10,10 @@ use lib.ListN.{length, take}
 use lib.Seq.{take-nil}
 use Rattle.ledger.specs.Ledger.{Ledger, start}
 use Rattle.ledger.specs.Frames.{Turn, goes-on, closes, turn, Taken, afterTurn, taken, frameOf}
+use Rattle.ledger.specs.Answers as answers
 use Rattle.ledger.specs.Calls as calls
-use Rattle.ledger.specs.Calls.{Call, Effect, closed, effectOf, withRun, pieceStep, shortStep, step, after}
+use Rattle.ledger.specs.Answers.{Call}
+use Rattle.ledger.specs.Calls.{Effect, closed, effectOf, withRun, pieceStep, shortStep, step, after}
 use Rattle.ledger.specs.History.{Event, byte, minute, eventsOf, history, Handed, handedBy, handedIn, handedOut, Happening, atTurn, happens, afterHistory, handedInHistory}
 
 -- histories one behind the other
@@ -78,16 +80,16 @@ record SameStep (l : Ledger) (c : Call) (s : calls.Step) : Type 0 where
 
 step-same : (l : Ledger) (c : Call) → SameStep l c (step l c)
 unfolding step afterHistory handedInHistory
-step-same l (calls.piece bytes reply packet) = by-room (ltb (length reply) 9 || ltb (length packet) 383)
+step-same l (answers.piece bytes reply packet) = by-room (ltb (length reply) 9 || ltb (length packet) 383)
   where
     by-room : (t : Bool)
-        → SameStep l (calls.piece bytes reply packet) (cond t (shortStep l reply packet) (pieceStep l (taken (l .run) bytes 0) reply packet))
+        → SameStep l (answers.piece bytes reply packet) (cond t (shortStep l reply packet) (pieceStep l (taken (l .run) bytes 0) reply packet))
     by-room true = record { ledger = refl; handed = refl }
     by-room false =
         let same = piece-same bytes l 0 in
         let all : taken (l .run) bytes 0 .count - 0 ≡ taken (l .run) bytes 0 .count = omega arith in
         record { ledger = sym (rw all at (same .ledger)); handed = sym (rw all at (same .handed)) }
-step-same l calls.tick = record { ledger = refl; handed = refl }
+step-same l answers.tick = record { ledger = refl; handed = refl }
 
 -- the ledger after a list of calls, and all that is handed out, are settled by the history
 pub after-history : (l : Ledger) (cs : List Call) → after l cs ≡ afterHistory l (history l cs)

@@ -24,8 +24,10 @@ use Rattle.display.specs.declared.Display.{Display}
 use Rattle.ledger.specs.Ledger.{Update, Entry, Ledger, unheard, nameOf, start, updated, older, olderEntry, Row, never, current, silent, rowOf}
 use Rattle.ledger.specs.Frames as frames
 use Rattle.ledger.specs.Frames.{Frame, Taken, taken, frameOf}
+use Rattle.ledger.specs.Answers as answers
 use Rattle.ledger.specs.Calls as calls
-use Rattle.ledger.specs.Calls.{Call, Given, Effect, repeated, closed, effectOf, withRun, pieceStep, shortStep, step, given, after}
+use Rattle.ledger.specs.Answers.{Call, Given}
+use Rattle.ledger.specs.Calls.{Effect, repeated, closed, effectOf, withRun, pieceStep, shortStep, step, given, after}
 use Rattle.ledger.specs.History.{Event, history, Handed, handedOut, afterHistory, handedInHistory, byReading, byAnswer, byGiven, lastUpdate}
 use Rattle.ledger.specs.Shown.{asCounts, asState, asEntry, Left}
 use Rattle.ledger.proofs.Chain.{Begins, Chain}
@@ -125,26 +127,26 @@ update-followed name value (e ∷ es) once = cases (sameBytes (e .name) name) re
     cases false f rest = rw f (ap (λ (l : List Entry). e ∷ l) rest)
 
 read-followed : (l : Ledger) (sequence n : ℕ) (payload reply packet : List ℕ) (v : Verdict) → distinct (map nameOf (l .entries)) ≡ true
-    → calls.afterReading (calls.afterNew l sequence) v .entries ≡ map (followedBy (calls.took n (calls.new sequence payload v) reply packet)) (l .entries)
+    → calls.afterReading (calls.afterNew l sequence) v .entries ≡ map (followedBy (answers.took n (answers.new sequence payload v) reply packet)) (l .entries)
 read-followed l sequence n payload reply packet (reading.refused k) once = sym (kept-all (l .entries))
 read-followed l sequence n payload reply packet reading.endMark once = sym (kept-all (l .entries))
 read-followed l sequence n payload reply packet (reading.update name value) once = update-followed name value (l .entries) once
 
 frame-followed : (l : Ledger) (f : Frame) (n : ℕ) (reply packet : List ℕ) → distinct (map nameOf (l .entries)) ≡ true
-    → closed l f .ledger .entries ≡ map (followedBy (calls.took n (closed l f .answer) reply packet)) (l .entries)
+    → closed l f .ledger .entries ≡ map (followedBy (answers.took n (closed l f .answer) reply packet)) (l .entries)
 frame-followed l (frames.refused k) n reply packet once = sym (kept-all (l .entries))
 frame-followed l (frames.acknowledgement sequence) n reply packet once = sym (kept-all (l .entries))
 frame-followed l (frames.good sequence payload) n reply packet once = cases (repeated (l .sequence) sequence)
   where
     cases : (t : Bool)
         → cond t (calls.repeatedFrame l sequence) (calls.newFrame l sequence payload) .ledger .entries
-        ≡ map (followedBy (calls.took n (cond t (calls.repeatedFrame l sequence) (calls.newFrame l sequence payload) .answer) reply packet)) (l .entries)
+        ≡ map (followedBy (answers.took n (cond t (calls.repeatedFrame l sequence) (calls.newFrame l sequence payload) .answer) reply packet)) (l .entries)
     cases true = sym (kept-all (l .entries))
     cases false = read-followed l sequence n payload reply packet (calls.readingBy l payload) once
 
 step-followed : (l : Ledger) (c : Call) → distinct (map nameOf (l .entries)) ≡ true → step l c .ledger .entries ≡ map (followedBy (step l c .given)) (l .entries)
 unfolding step
-step-followed l (calls.piece bytes reply packet) once = by-room (ltb (length reply) 9 || ltb (length packet) 383)
+step-followed l (answers.piece bytes reply packet) once = by-room (ltb (length reply) 9 || ltb (length packet) 383)
   where
     by-frame : (t : Taken) → pieceStep l t reply packet .ledger .entries ≡ map (followedBy (pieceStep l t reply packet .given)) (l .entries)
     by-frame t = at-frame (t .frame) refl
@@ -159,7 +161,7 @@ step-followed l (calls.piece bytes reply packet) once = by-room (ltb (length rep
         ≡ map (followedBy (cond t (shortStep l reply packet) (pieceStep l (taken (l .run) bytes 0) reply packet) .given)) (l .entries)
     by-room true = sym (kept-all (l .entries))
     by-room false = by-frame (taken (l .run) bytes 0)
-step-followed l calls.tick once = refl
+step-followed l answers.tick once = refl
 
 names-followed : (g : Given) (es : List Entry) → map nameOf (map (followedBy g) es) ≡ map nameOf es
 names-followed g [] = refl

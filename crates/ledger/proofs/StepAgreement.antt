@@ -37,7 +37,8 @@ use Rattle.ledger.specs.Ledger.{Ledger, olderEntry}
 use Rattle.ledger.specs.Frames as frames
 use Rattle.ledger.specs.Frames.{Frame, Taken, taken, frameOf}
 use Rattle.ledger.specs.Calls as calls
-use Rattle.ledger.specs.Calls.{piece, tick, Effect, afterReading, closed, effectOf, withRun, pieceStep, shortStep, step}
+use Rattle.ledger.specs.Answers.{piece, tick}
+use Rattle.ledger.specs.Calls.{Effect, afterReading, closed, effectOf, withRun, pieceStep, shortStep, step}
 use Rattle.ledger.specs.Shown.{asCounts, asLast, asAnswer, Left, took, ticked, asLeft}
 use Rattle.ledger.proofs.RunAgreement.{Standing, Reached, Agreement, agree}
 use Rattle.ledger.proofs.RowAgreement.{entries-older, names-older, row-names-tick}

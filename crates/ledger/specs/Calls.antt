@@ -11,27 +11,9 @@ use Rattle.frame.specs.Writing as writing
 use Rattle.board.specs.Reading as reading
 use Rattle.board.specs.Reading.{Verdict, readingOf}
 use Rattle.ledger.specs.Ledger.{Counts, Entry, Ledger, nameOf, plusNew, plusAgain, plusHeard, plusUnread, plusRefused, updated, olderEntry}
+use Rattle.ledger.specs.Answers.{Call, piece, tick, Answer, nothing, refused, heard, again, new, Given, took, ticked}
 use Rattle.ledger.specs.Frames as frames
 use Rattle.ledger.specs.Frames.{Frame, Taken, taken, frameOf}
-
--- a piece with its two buffers, or a tick
-pub data Call : Type 0 where
-  piece : List ℕ → List ℕ → List ℕ → Call
-  tick : Call
-
--- what a piece is answered: no frame; a refusal; the sequence heard; a data frame repeated at once; or a new one, with what the
--- board reads in its payload
-pub data Answer : Type 0 where
-  nothing : Answer
-  refused : ℕ → Answer
-  heard : ℕ → Answer
-  again : ℕ → Answer
-  new : ℕ → List ℕ → Verdict → Answer
-
--- what a call gives: the bytes taken, the answer and the bytes left in the two buffers; or nothing, of a tick
-pub data Given : Type 0 where
-  took : ℕ → Answer → List ℕ → List ℕ → Given
-  ticked : Given
 
 -- what a frame does: the ledger after it, the answer, and the bytes put at the start of the reply and of the packet buffer
 pub record Effect : Type 0 where

@@ -10,8 +10,10 @@ use Rattle.board.specs.Reading as reading
 use Rattle.board.specs.Reading.{Verdict}
 use Rattle.ledger.specs.Ledger.{Ledger, Update, older, olderEntry}
 use Rattle.ledger.specs.Frames.{Turn, goes-on, closes, turn, frameOf}
+use Rattle.ledger.specs.Answers as answers
 use Rattle.ledger.specs.Calls as calls
-use Rattle.ledger.specs.Calls.{Call, Given, Answer, Effect, closed, withRun, step}
+use Rattle.ledger.specs.Answers.{Call, Given, Answer}
+use Rattle.ledger.specs.Calls.{Effect, closed, withRun, step}
 
 pub data Event : Type 0 where
   byte : ℕ → Event
@@ -19,9 +21,9 @@ pub data Event : Type 0 where
 
 -- what one call adds to the history
 abbrev pub eventsOf : Call → Given → List Event
-eventsOf (calls.piece bytes reply packet) (calls.took n answer reply₁ packet₁) = map byte (take n bytes)
-eventsOf (calls.piece bytes reply packet) calls.ticked = []
-eventsOf calls.tick given = minute ∷ []
+eventsOf (answers.piece bytes reply packet) (answers.took n answer reply₁ packet₁) = map byte (take n bytes)
+eventsOf (answers.piece bytes reply packet) answers.ticked = []
+eventsOf answers.tick given = minute ∷ []
 
 unfoldable pub history : Ledger → List Call → List Event
 history l [] = []
@@ -33,15 +35,15 @@ pub record Handed : Type 0 where
   pub packet : Option (List ℕ)
 
 abbrev pub handedBy : Answer → List Handed
-handedBy calls.nothing = []
-handedBy (calls.refused n) = []
-handedBy (calls.heard sequence) = []
-handedBy (calls.again sequence) = record { reply = calls.answerTo sequence; packet = none } ∷ []
-handedBy (calls.new sequence payload verdict) = record { reply = calls.answerTo sequence; packet = some payload } ∷ []
+handedBy answers.nothing = []
+handedBy (answers.refused n) = []
+handedBy (answers.heard sequence) = []
+handedBy (answers.again sequence) = record { reply = calls.answerTo sequence; packet = none } ∷ []
+handedBy (answers.new sequence payload verdict) = record { reply = calls.answerTo sequence; packet = some payload } ∷ []
 
 abbrev pub handedIn : Given → List Handed
-handedIn (calls.took n answer reply packet) = handedBy answer
-handedIn calls.ticked = []
+handedIn (answers.took n answer reply packet) = handedBy answer
+handedIn answers.ticked = []
 
 -- all replies and packets of a list of calls, in order
 unfoldable pub handedOut : Ledger → List Call → List Handed
@@ -80,15 +82,15 @@ byReading name reading.endMark before = before
 byReading name (reading.update other value) before = cond (sameBytes name other) (some (record { value = value; ticks = 0 })) before
 
 abbrev pub byAnswer : List ℕ → Answer → Option Update → Option Update
-byAnswer name calls.nothing before = before
-byAnswer name (calls.refused n) before = before
-byAnswer name (calls.heard sequence) before = before
-byAnswer name (calls.again sequence) before = before
-byAnswer name (calls.new sequence payload verdict) before = byReading name verdict before
+byAnswer name answers.nothing before = before
+byAnswer name (answers.refused n) before = before
+byAnswer name (answers.heard sequence) before = before
+byAnswer name (answers.again sequence) before = before
+byAnswer name (answers.new sequence payload verdict) before = byReading name verdict before
 
 abbrev pub byGiven : List ℕ → Given → Option Update → Option Update
-byGiven name (calls.took n answer reply packet) before = byAnswer name answer before
-byGiven name calls.ticked before = older before
+byGiven name (answers.took n answer reply packet) before = byAnswer name answer before
+byGiven name answers.ticked before = older before
 
 unfoldable pub lastUpdate : List ℕ → List Given → Option Update → Option Update
 lastUpdate name [] before = before

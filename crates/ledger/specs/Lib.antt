@@ -1,5 +1,6 @@
 pub mod Ledger
 pub mod Frames
+pub mod Answers
 pub mod Calls
 pub mod Shown
 pub mod History

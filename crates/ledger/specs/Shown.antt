@@ -16,7 +16,7 @@ use Rattle.link.specs.declared.receiver.Last.{Last}
 use Rattle.link.specs.declared.receiver.Last.the-variants.{None, Sequence}
 use Rattle.display.specs.declared.Answer as display-answer
 use Rattle.ledger.specs.Ledger.{Counts, Entry, Row, never, current, silent, rowOf}
-use Rattle.ledger.specs.Calls as calls
+use Rattle.ledger.specs.Answers as answers
 use Rattle.ledger.specs.Calls.{answerTo}
 
 -- 01, The shape we want: the value equals the history's count modulo 65,536
@@ -56,12 +56,12 @@ asReading names (reading.refused n) = board-answer.the-variants.Refused n
 asReading names reading.endMark = board-answer.the-variants.EndMark
 asReading names (reading.update name value) = asPlace (placeOf name names)
 
-abbrev pub asAnswer : List (List ℕ) → calls.Answer → display-answer.Answer
-asAnswer names calls.nothing = display-answer.the-variants.Nothing
-asAnswer names (calls.refused n) = display-answer.the-variants.Refused n
-asAnswer names (calls.heard sequence) = display-answer.the-variants.Heard sequence
-asAnswer names (calls.again sequence) = display-answer.the-variants.Again (length (answerTo sequence))
-asAnswer names (calls.new sequence payload verdict) =
+abbrev pub asAnswer : List (List ℕ) → answers.Answer → display-answer.Answer
+asAnswer names answers.nothing = display-answer.the-variants.Nothing
+asAnswer names (answers.refused n) = display-answer.the-variants.Refused n
+asAnswer names (answers.heard sequence) = display-answer.the-variants.Heard sequence
+asAnswer names (answers.again sequence) = display-answer.the-variants.Again (length (answerTo sequence))
+asAnswer names (answers.new sequence payload verdict) =
     display-answer.the-variants.New (length (answerTo sequence)) (length payload) (asReading names verdict)
 
 -- what a call left: the bytes taken, the answer, and the bytes in the two buffers; or nothing, of a tick
@@ -69,6 +69,6 @@ pub data Left : Type 0 where
   took : ℕ → display-answer.Answer → List ℕ → List ℕ → Left
   ticked : Left
 
-abbrev pub asLeft : List (List ℕ) → calls.Given → Left
-asLeft names (calls.took n answer reply packet) = took n (asAnswer names answer) reply packet
-asLeft names calls.ticked = ticked
+abbrev pub asLeft : List (List ℕ) → answers.Given → Left
+asLeft names (answers.took n answer reply packet) = took n (asAnswer names answer) reply packet
+asLeft names answers.ticked = ticked

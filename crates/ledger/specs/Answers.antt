@@ -1,0 +1,23 @@
+-- 01, The ledger: what a call is, and what it is given.
+use Prim.Native.Nat.{ℕ}
+use mathlib.Core.List.{List}
+use Rattle.board.specs.Reading.{Verdict}
+
+-- a piece with its two buffers, or a tick
+pub data Call : Type 0 where
+  piece : List ℕ → List ℕ → List ℕ → Call
+  tick : Call
+
+-- what a piece is answered: no frame; a refusal; the sequence heard; a data frame repeated at once; or a new one, with what the
+-- board reads in its payload
+pub data Answer : Type 0 where
+  nothing : Answer
+  refused : ℕ → Answer
+  heard : ℕ → Answer
+  again : ℕ → Answer
+  new : ℕ → List ℕ → Verdict → Answer
+
+-- what a call gives: the bytes taken, the answer and the bytes left in the two buffers; or nothing, of a tick
+pub data Given : Type 0 where
+  took : ℕ → Answer → List ℕ → List ℕ → Given
+  ticked : Given

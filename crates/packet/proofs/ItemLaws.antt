@@ -9,7 +9,7 @@ use native.Mathlib.Omega.{arith}
 use lib.Dec.{leb, eqb}
 use lib.ListN.{length, take, drop, length-append, length-drop, take-append-drop}
 use lib.Seq.{length-take-le}
-use borrow.Author.Tests.{le-leb, leb-true, leb-false}
+use borrow.Author.Tests.{leb-true}
 use Rattle.packet.specs.Items.{Item, inFront, itemsUpTo, itemsFilling, emptyIfEof, eofsEmpty, ifEofsEmpty, itemsOf, itemBytes, itemsBytes, countOf}
 
 -- any bound of at least the number of bytes gives the same

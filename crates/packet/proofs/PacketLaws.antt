@@ -1,6 +1,6 @@
 -- What the item reader tells of a packet is told of the packet's items: by cases on the first four bytes and on the items.
-use mathlib.Core.Path.{_≡_, refl, sym, ap, _∙_}
-use mathlib.Core.Bool.{Bool, true, false, cond, _&&_}
+use mathlib.Core.Path.{_≡_, refl, sym}
+use mathlib.Core.Bool.{Bool, true, false, cond}
 use mathlib.Core.List.{List, []}
 use mathlib.Core.Option.{Option, none, some}
 use Prim.Native.Nat.{ℕ, _+_, _*_, _≤_}
@@ -10,12 +10,11 @@ use lib.ListN.{length, getD, drop}
 use borrow.Author.Tests.{leb-true}
 use Rattle.refusals.specs.Numbers.{noDataPacket}
 use Rattle.packet.specs.Items.{Item, itemsOf, countOf}
-use Rattle.packet.specs.Packet.{Judged, refused, isData, withItems, packetOf, judgedItems, packetItems}
+use Rattle.packet.specs.Packet.{refused, isData, withItems, packetOf, judgedItems, packetItems}
 use Rattle.packet.specs.Answers.{readingOf, findIn, behindIn}
 use Rattle.packet.specs.Walk.{tallyOf, packetTally}
 use Rattle.packet.specs.declared.Found.{Found}
 use Rattle.packet.specs.declared.Reading.the-variants.{Packet, Refused}
-use Rattle.packet.specs.declared.Tally.{Tally}
 use Rattle.packet.specs.declared.Tally.the-variants.{Items, Broken}
 use Rattle.packet.proofs.WalkLaws.{both}
 

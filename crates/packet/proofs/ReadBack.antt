@@ -1,25 +1,24 @@
 -- 01, Items and packets: each request, read by the packet and item rules, gives back its opcode, id and items. What is sent of
 -- any items is read as those items, and what is sent of any packet as that packet.
-use mathlib.Core.Path.{_≡_, refl, sym, ap, _∙_}
-use mathlib.Core.Bool.{Bool, true, false, cond, _&&_}
+use mathlib.Core.Path.{_≡_, refl, ap, _∙_}
+use mathlib.Core.Bool.{Bool, true, false, cond}
 use mathlib.Core.List.{List, [], _∷_, _++_}
-use mathlib.Core.Option.{Option, none, some}
+use mathlib.Core.Option.{some}
 use Prim.Native.Nat.{ℕ, _+_, _*_, _/_, _%_, _≤_}
 use native.Mathlib.Omega.{arith}
-use lib.Dec.{leb, eqb}
-use lib.ListN.{length, take, drop, length-append}
+use lib.Dec.{leb}
+use lib.ListN.{length, take, length-append}
 use lib.Seq.{take-append-seam, drop-append-seam}
 use borrow.Author.Tests.{le-leb, leb-true}
 use Rattle.slices.specs.Put.{putAt}
 use Rattle.slices.proofs.PutLaws.{put-first}
 use Rattle.packet.specs.Items.{Item, inFront, emptyIfEof, eofsEmpty, ifEofsEmpty, itemsFilling, itemsOf, itemBytes, itemsBytes}
-use Rattle.packet.specs.Packet.{Packet, Judged, packet, isData, withItems, packetOf, packetBytes}
+use Rattle.packet.specs.Packet.{Packet, packet, isData, withItems, packetOf, packetBytes}
 use Rattle.packet.specs.Names.{validName, validLocation}
-use Rattle.packet.specs.Requests.{Output, wrote, refusedBy, fitted, answerOf, bytesOf, Writes, nameItem, locationItem, offsetItem, offsetItems, getPacket, filePacket, fetchedPacket, stopPacket, propertyGet, fileRequest, fetchedRequest, stopRequest}
+use Rattle.packet.specs.Requests.{refusedBy, fitted, answerOf, bytesOf, Writes, nameItem, locationItem, offsetItem, offsetItems, getPacket, filePacket, fetchedPacket, stopPacket, propertyGet, fileRequest, fetchedRequest, stopRequest}
 use Rattle.packet.specs.declared.Offset.{Offset}
 use Rattle.packet.specs.declared.Offset.the-variants.{Given, Omitted}
-use Rattle.packet.specs.declared.Written.{Written}
-use Rattle.packet.specs.declared.Written.the-variants.{Length, Refused}
+use Rattle.packet.specs.declared.Written.the-variants.{Length}
 use Rattle.packet.proofs.ItemLaws.{items-end, items-rule}
 
 -- items as they are sent are filled by those items

@@ -1,18 +1,17 @@
 -- What the item reader's steps answer follows from the item rule: one law for each way through the reader.
-use mathlib.Core.Path.{_≡_, refl, sym, ap, _∙_}
+use mathlib.Core.Path.{_≡_, refl}
 use mathlib.Core.Bool.{Bool, true, false, cond, _&&_}
 use mathlib.Core.List.{List, [], _∷_}
 use mathlib.Core.Option.{Option, none, some}
-use Prim.Native.Nat.{ℕ, zero, suc, _+_, _-_, _*_, _≤_, _<_}
+use Prim.Native.Nat.{ℕ, suc, _+_, _-_, _*_, _^_, _≤_, _<_}
 use native.Mathlib.Omega.{arith}
 use lib.Dec.{leb, eqb}
 use lib.ListN.{length, getD, take, drop, length-drop}
 use lib.Seq.{length-take-le, take-all}
-use borrow.Author.Tests.{le-leb, lt-leb, leb-true, leb-false, eq-eqb, ne-eqb}
+use borrow.Author.Tests.{le-leb, leb-true}
 use Rattle.packet.specs.Items.{Item, inFront, eofKind, emptyIfEof, itemsOf, countOf}
 use Rattle.packet.specs.Answers.{placed, past, headIn, findIn, behindIn}
-use Rattle.packet.specs.Walk.{beginsWithItem, tallyOf}
-use Rattle.packet.specs.declared.Found.{Found}
+use Rattle.packet.specs.Walk.{Countable, beginsWithItem, withItem, tallyOf}
 use Rattle.packet.specs.declared.Found.the-variants.{At, Nothing}
 use Rattle.packet.specs.declared.Tally.{Tally}
 use Rattle.packet.specs.declared.Tally.the-variants.{Items, Broken}
@@ -84,38 +83,19 @@ broken (kind ∷ size ∷ rest) ne h = cases (leb size (length rest)) refl
 pub part-rest : (bytes : List ℕ) (n : ℕ) → take (length bytes - n) (drop n bytes) ≡ drop n bytes
 part-rest bytes n = take-all (length bytes - n) (drop n bytes) (simp length-drop (omega arith))
 
-module _ (at wanted : ℕ) (item : Item) where
-  -- the items behind this one are broken
-  tally-broken : (read : Option (List Item)) → tallyOf (past at item) wanted read ≡ Broken → Broken ≡ tallyOf at wanted (inFront item read)
-  unfolding tallyOf inFront
-  tally-broken none e = refl
-  tally-broken (some items) e = let z : _≡_ {A = ℕ} 0 1 = cc in absurd (omega arith)
-
-  module _ (all count : ℕ) (first behind head : Found) where
-    -- this item is of the wanted kind
-    tally-wanted : (read : Option (List Item)) → tallyOf (past at item) wanted read ≡ Items all count first behind head → item .kind ≡ wanted → Items (all + 1) (count + 1) (placed at item) head (placed at item) ≡ tallyOf at wanted (inFront item read)
-    unfolding tallyOf inFront countOf findIn behindIn headIn
-    tally-wanted none e k = let z : _≡_ {A = ℕ} 0 1 = cc in absurd (omega arith)
-    tally-wanted (some items) e k =
-        let a : length items ≡ all = cc in
-        let c : countOf wanted items ≡ count = cc in
-        let h : headIn (past at item) items ≡ head = cc in
-        let a1 : all + 1 ≡ suc (length items) = omega arith in
-        let c1 : count + 1 ≡ 1 + countOf wanted items = omega arith in
-        rw (eq-eqb (item .kind) wanted k, a1, c1, h)
-
-    -- this item is of another kind
-    tally-other : (read : Option (List Item)) → tallyOf (past at item) wanted read ≡ Items all count first behind head → (item .kind ≡ wanted → ⊥) → Items (all + 1) count first behind (placed at item) ≡ tallyOf at wanted (inFront item read)
-    unfolding tallyOf inFront countOf findIn behindIn headIn
-    tally-other none e k = let z : _≡_ {A = ℕ} 0 1 = cc in absurd (omega arith)
-    tally-other (some items) e k =
-        let a : length items ≡ all = cc in
-        let c : countOf wanted items ≡ count = cc in
-        let f : findIn (past at item) wanted items ≡ first = cc in
-        let b : behindIn (past at item) wanted items ≡ behind = cc in
-        let a1 : all + 1 ≡ suc (length items) = omega arith in
-        let c0 : 0 + countOf wanted items ≡ count = omega arith in
-        rw (ne-eqb (item .kind) wanted k, a1, c0, f, b)
+-- an item in front of items that were read, or could not be
+front-told : (at wanted : ℕ) (item : Item) (read : Option (List Item)) (t : Bool) → eqb (item .kind) wanted ≡ t → withItem (placed at item) t (tallyOf (past at item) wanted read) ≡ tallyOf at wanted (inFront item read)
+unfolding tallyOf inFront withItem countOf findIn behindIn headIn
+front-told at wanted item none true e = refl
+front-told at wanted item none false e = refl
+front-told at wanted item (some items) true e =
+    let more : length items + 1 ≡ suc (length items) = omega arith in
+    let another : countOf wanted items + 1 ≡ 1 + countOf wanted items = omega arith in
+    rw (e, more, another)
+front-told at wanted item (some items) false e =
+    let more : length items + 1 ≡ suc (length items) = omega arith in
+    let same : 0 + countOf wanted items ≡ countOf wanted items = omega arith in
+    rw (e, more, same)
 
 -- the end of the items
 pub walk-end : (bytes : List ℕ) (at wanted : ℕ) → length bytes ≡ 0 → Items 0 0 Nothing Nothing Nothing ≡ tallyOf at wanted (itemsOf bytes)
@@ -151,38 +131,20 @@ module _ (bytes : List ℕ) (at wanted : ℕ) (h : beginsWithItem bytes ≡ true
   unfolding past
   rest-same = rw (size, part-rest bytes (getD bytes 1 0 + 2))
 
-  pub walk-broken : rest-told ≡ Broken → Broken ≡ tallyOf at wanted (itemsOf bytes)
-  walk-broken e = rw (whole bytes h) (tally-broken at wanted (firstItem bytes) (itemsOf (drop (getD bytes 1 0 + 2) bytes)) (rest-same ∙ e))
+  -- what is told of the whole
+  pub walk-item : withItem (At (getD bytes 0 0) (at + 2) (getD bytes 1 0)) (eqb (getD bytes 0 0) wanted) rest-told ≡ tallyOf at wanted (itemsOf bytes)
+  walk-item =
+      rw (whole bytes h, ← item-placed, ← rest-same)
+      (front-told at wanted (firstItem bytes) (itemsOf (drop (getD bytes 1 0 + 2) bytes)) (eqb (getD bytes 0 0) wanted) refl)
 
-  module _ (all count : ℕ) (first behind head : Found) (e : rest-told ≡ Items all count first behind head) where
-    pub walk-wanted :
-        getD bytes 0 0 ≡ wanted
-        → Items (all + 1) (count + 1) (At (getD bytes 0 0) (at + 2) (getD bytes 1 0)) head (At (getD bytes 0 0) (at + 2) (getD bytes 1 0)) ≡ tallyOf at wanted (itemsOf bytes)
-    walk-wanted k =
-        rw (whole bytes h, ← item-placed)
-        (tally-wanted at wanted (firstItem bytes) all count first behind head (itemsOf (drop (getD bytes 1 0 + 2) bytes)) (rest-same ∙ e) k)
-
-    pub walk-other :
-        (getD bytes 0 0 ≡ wanted → ⊥)
-        → Items (all + 1) count first behind (At (getD bytes 0 0) (at + 2) (getD bytes 1 0)) ≡ tallyOf at wanted (itemsOf bytes)
-    walk-other k =
-        rw (whole bytes h, ← item-placed)
-        (tally-other at wanted (firstItem bytes) all count first behind head (itemsOf (drop (getD bytes 1 0 + 2) bytes)) (rest-same ∙ e) k)
-
--- what is told of bytes counts no more than half of them
-pub record Few (bytes : List ℕ) (all count : ℕ) : Type 0 where
-  pub half : all * 2 ≤ length bytes
-  pub fewer : count ≤ all
-
-pub walk-few : (bytes : List ℕ) (at wanted all count : ℕ) (first behind head : Found) → tallyOf at wanted (itemsOf bytes) ≡ Items all count first behind head → Few bytes all count
-unfolding tallyOf
-walk-few bytes at wanted all count first behind head e = cases (itemsOf bytes) refl e
+-- bytes that can be counted hold items that can be counted
+pub walk-countable : (bytes : List ℕ) (at wanted : ℕ) → length bytes + 1 < 2 ^ 64 → Countable (tallyOf at wanted (itemsOf bytes))
+unfolding tallyOf Countable
+walk-countable bytes at wanted h = cases (itemsOf bytes) refl
   where
-    cases : (read : Option (List Item)) → itemsOf bytes ≡ read → tallyOf at wanted read ≡ Items all count first behind head → Few bytes all count
-    cases none r e = let z : _≡_ {A = ℕ} 0 1 = cc in absurd (omega arith)
-    cases (some items) r e =
-        let a : length items ≡ all = cc in
-        let c : countOf wanted items ≡ count = cc in
+    cases : (read : Option (List Item)) → itemsOf bytes ≡ read → Countable (tallyOf at wanted read)
+    cases none r = tt
+    cases (some items) r =
         let few : length items * 2 ≤ length bytes = items-few bytes items r in
         let fewer : countOf wanted items ≤ length items = count-few wanted items in
-        record { half = omega arith; fewer = omega arith }
+        (omega arith, omega arith)

@@ -1,7 +1,7 @@
 -- 01, Items and packets: what items a string of bytes holds, and how a caller picks among them.
 -- `itemsOf` is the rule; `countOf`, `firstOf` and `behindOf` are what callers ask of a list of items.
 use Prim.Native.Nat.{ℕ, zero, suc, _+_}
-use mathlib.Core.Bool.{Bool, true, false, cond, _&&_}
+use mathlib.Core.Bool.{Bool, true, cond, _&&_}
 use mathlib.Core.List.{List, [], _∷_, _++_}
 use mathlib.Core.Option.{Option, none, some}
 use lib.Dec.{leb, eqb}

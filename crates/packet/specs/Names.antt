@@ -1,6 +1,6 @@
 -- 01, Items and packets: which names and locations are valid.
 use Prim.Native.Nat.{ℕ}
-use mathlib.Core.Bool.{Bool, true, false, _&&_, _||_}
+use mathlib.Core.Bool.{Bool, true, _&&_, _||_}
 use mathlib.Core.List.{List, [], _∷_}
 use lib.Dec.{leb, eqb}
 use lib.ListN.{length, getD}
@@ -22,7 +22,7 @@ allNameBytes [] = true
 allNameBytes (byte ∷ bytes) = isNameByte byte && allNameBytes bytes
 
 -- 01, Items and packets: names have 1 to 27 bytes: ASCII letters, digits, hyphen, underscore; the first is a letter. Case
--- counts, so nothing is said here of names that differ in it alone.
+-- counts: a name is its bytes, and names are the same where their bytes are.
 unfoldable pub validName : List ℕ → Bool
 validName name = between 1 27 (length name) && isLetter (getD name 0 0) && allNameBytes name
 

@@ -6,7 +6,7 @@ ghost use lib.ListN.{length};
 ghost use Rattle.packet.specs.Items.{countOf, itemsOf};
 ghost use Rattle.packet.specs.Packet.{isData, packetOf, packetItems, withHead};
 ghost use Rattle.packet.specs.Answers.{findIn, behindIn, readingOf};
-ghost use Rattle.packet.specs.Walk.{beginsWithItem, tallyOf, packetTally};
+ghost use Rattle.packet.specs.Walk.{Countable, beginsWithItem, withItem, tallyOf, packetTally};
 ghost use Rattle.packet.specs.Requests.{Writes, fitted, propertyGet, fileRequest, fetchedRequest, stopRequest};
 ghost use Rattle.packet.specs.Names.{between, isLetter, isNameByte, validName, validLocation};
 use refusals::BAD_FRAGMENT;
@@ -15,9 +15,10 @@ use refusals::BAD_NAME;
 use refusals::NO_DATA_PACKET;
 use refusals::SHORT_OUTPUT;
 
-// The first byte of a data packet, and the number of bytes before its items.
+// A data packet's first byte.
 const DATA: u8 = 1;
 
+// The bytes before a packet's items: 01, opcode, request id.
 const HEAD_LENGTH: usize = 4;
 
 const LONGEST_NAME: usize = 27;
@@ -88,47 +89,35 @@ fn begins_with_item(rest: &[u8]) -> bool
     true
 }
 
-// Reads the items of `rest`, which stands in its packet from the place `at` on: the first item, and
-// what is left behind it by the same rule.
-fn read_items(rest: &[u8], wanted: u8, at: usize) -> Tally
-    requires { ⌜ at + length (now rest) < 2 ^ 64 ⌝ }
-    ensures { λ r. ⌜ r ≡ tallyOf at wanted (itemsOf (now (rest .entry))) ⌝ }
+fn no_items() -> Tally
+    ensures { λ r. ⌜ r ≡ Tally.Items 0 0 Found.Nothing Found.Nothing Found.Nothing ⌝ }
 {
-    if rest.len() == 0 {
-        return Tally::Items {
-            all: 0,
-            count: 0,
-            first: Found::Nothing,
-            behind: Found::Nothing,
-            head: Found::Nothing,
-        };
+    Tally::Items {
+        all: 0,
+        count: 0,
+        first: Found::Nothing,
+        behind: Found::Nothing,
+        head: Found::Nothing,
     }
-    let whole = begins_with_item(rest);
-    if !whole {
-        return Tally::Broken;
-    }
-    let kind = rest[0];
-    let length = rest[1] as usize;
-    let end = length + 2;
-    let start = at + 2;
-    let further = at + end;
+}
+
+// What is found in `rest` with `item` in front of it, which is of the wanted kind or not.
+fn with_item(item: Found, wanted: bool, rest: Tally) -> Tally
+    requires { ⌜ Countable rest ⌝ }
+    ensures { λ r. ⌜ r ≡ withItem item wanted rest ⌝ }
+{
     let Tally::Items {
         all,
         count,
         first,
         behind,
         head,
-    } = read_items(&rest[end..], wanted, further)
+    } = rest
     else {
         return Tally::Broken;
     };
-    let item = Found::At {
-        kind,
-        start,
-        length,
-    };
     let more = all + 1;
-    if kind == wanted {
+    if wanted {
         let another = count + 1;
         return Tally::Items {
             all: more,
@@ -147,6 +136,35 @@ fn read_items(rest: &[u8], wanted: u8, at: usize) -> Tally
     }
 }
 
+// Reads the items of `rest`, which stands in its packet from the place `at` on: the first item, and
+// what is left behind it by the same rule. It calls itself once for each item, of which a packet
+// from the link has at most 189.
+fn read_items(rest: &[u8], wanted: u8, at: usize) -> Tally
+    requires { ⌜ at + length (now rest) < 2 ^ 64 ⌝ }
+    ensures { λ r. ⌜ r ≡ tallyOf at wanted (itemsOf (now (rest .entry))) ⌝ }
+{
+    if rest.len() == 0 {
+        return no_items();
+    }
+    let whole = begins_with_item(rest);
+    if !whole {
+        return Tally::Broken;
+    }
+    let kind = rest[0];
+    let length = rest[1] as usize;
+    let end = length + 2;
+    let start = at + 2;
+    let further = at + end;
+    let behind = read_items(&rest[end..], wanted, further);
+    let item = Found::At {
+        kind,
+        start,
+        length,
+    };
+    let of_kind = kind == wanted;
+    with_item(item, of_kind, behind)
+}
+
 // Whether `s` has a data packet's first four bytes.
 fn is_data(s: &[u8]) -> bool
     ensures { λ r. ⌜ r ≡ isData (now (s .entry)) ⌝ }
@@ -157,7 +175,8 @@ fn is_data(s: &[u8]) -> bool
     s[0] == DATA
 }
 
-// What the item reader finds in a packet; `Broken` where the packet is refused.
+// What the item reader finds in a packet; `Broken` where the packet is refused. Whether it is does
+// not depend on the kind.
 fn tally_packet(s: &[u8], kind: u8) -> Tally
     ensures { λ r. ⌜ r ≡ packetTally kind (now (s .entry)) ⌝ }
 {
@@ -197,7 +216,7 @@ pub fn count_all(s: &[u8]) -> usize
     all
 }
 
-// How many items of the kind a packet has.
+// How many items of the kind a packet has; a refused one has none.
 pub fn count(s: &[u8], kind: u8) -> usize
     ensures { λ r. ⌜ r ≡ countOf kind (packetItems (now (s .entry))) ⌝ }
 {
@@ -207,7 +226,7 @@ pub fn count(s: &[u8], kind: u8) -> usize
     count
 }
 
-// The first item of the kind in a packet.
+// The first item of the kind in a packet; in a refused one nothing is found.
 pub fn find(s: &[u8], kind: u8) -> Found
     ensures { λ r. ⌜ r ≡ findIn 4 kind (packetItems (now (s .entry))) ⌝ }
 {
@@ -217,7 +236,7 @@ pub fn find(s: &[u8], kind: u8) -> Found
     first
 }
 
-// The item right behind the first item of the kind in a packet.
+// The item right behind the first item of the kind in a packet; in a refused one nothing is found.
 pub fn behind(s: &[u8], kind: u8) -> Found
     ensures { λ r. ⌜ r ≡ behindIn 4 kind (packetItems (now (s .entry))) ⌝ }
 {
@@ -253,7 +272,7 @@ fn is_name_byte(byte: u8) -> bool
     byte == b'-' || byte == b'_'
 }
 
-// Whether a name is valid.
+// Whether a name is valid: 1 to 27 letters, digits, hyphens and underscores, the first a letter.
 pub fn valid_name(name: &[u8]) -> bool
     ensures { λ r. ⌜ r ≡ validName (now (name .entry)) ⌝ }
 {
@@ -278,7 +297,7 @@ pub fn valid_name(name: &[u8]) -> bool
     true
 }
 
-// Whether a location is valid.
+// Whether a location is valid: 1 to 64 bytes.
 pub fn valid_location(location: &[u8]) -> bool
     ensures { λ r. ⌜ r ≡ validLocation (now (location .entry)) ⌝ }
 {
@@ -286,8 +305,8 @@ pub fn valid_location(location: &[u8]) -> bool
     1 <= length && length <= LONGEST_LOCATION
 }
 
-// What a request writer answers: how many bytes it wrote at the start of the output, or the number of
-// the refusal.
+// What a request writer answers: how many bytes it wrote at the start of the output, or the number
+// of the refusal.
 pub enum Written {
     Length(usize),
     Refused(u8),
@@ -299,7 +318,8 @@ pub enum Offset {
     Omitted,
 }
 
-// Writes a data packet whose items are the three strings joined, if the output has room for it.
+// Writes a data packet whose items are the three strings joined, if the output has room for it: the
+// shared end of the four requests.
 fn write_packet(
     opcode: u8,
     id: u16,

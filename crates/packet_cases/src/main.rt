@@ -93,7 +93,7 @@ fn cuts(s: &[u8]) {
 }
 
 // The packets of source document 000 that carry items, without their transport bytes.
-fn examples() {
+fn sent() {
     report(
         b"send a property",
         b"\x01\x09\x12\x34\x01\x04led0\x0f\x01\x01",
@@ -102,6 +102,9 @@ fn examples() {
         b"with metadata",
         b"\x01\x09\x12\x34\x34\x04key1\x05\x06value1\x01\x04led0\x0f\x01\x01",
     );
+}
+
+fn received() {
     report(
         b"receive a property",
         b"\x01\x03\x34\x56\x01\x02go\x02\x04\x00\x00\x01\x23",
@@ -152,6 +155,10 @@ fn fragments() {
         b"loud end",
         b"\x01\x0b\x00\x07\x13\x03loc\x11\x01\x03\x04\x02de\x14\x01\x00",
     );
+}
+
+// Names at their edges, and a first byte that is not 1.
+fn edges() {
     report(b"end mark", b"\x01\x03\x00\x00\x14\x00");
     report(
         b"two names",
@@ -176,31 +183,17 @@ fn name(s: &[u8]) {
     answer(packet::valid_name(s));
 }
 
-fn names() {
-    name(b"h1");
-    name(b"H1");
-    name(b"x");
-    name(b"Zz-_09aAyY");
-    name(b"abcdefghijklmnopqrstuvwxyz0");
-    name(b"abcdefghijklmnopqrstuvwxyz01");
-    name(b"");
-    name(b"1h");
-    name(b"-h");
-    name(b"_h");
-    name(b"h 1");
-    name(b"h.1");
-    name(b"h/1");
-    name(b"h:1");
-    name(b"h@1");
-    name(b"h[1");
-    name(b"h`1");
-    name(b"h{1");
-    name(b"h,1");
-    name(b"@h");
-    name(b"[h");
-    name(b"`h");
-    name(b"{h");
-    name(b"h\xc3\xa91");
+// Each line of a text as a name.
+fn names(lines: &[u8]) {
+    let mut start: usize = 0;
+    let mut i: usize = 0;
+    while i < lines.len() {
+        if lines[i] == b'\n' {
+            name(&lines[start..i]);
+            start = i + 1;
+        }
+        i += 1;
+    }
 }
 
 fn location(s: &[u8]) {
@@ -219,8 +212,7 @@ fn locations() {
 }
 
 // What a writer answered, and its whole output.
-fn written(label: &[u8], w: Written, out: &[u8]) {
-    text(label);
+fn written(w: Written, out: &[u8]) {
     match w {
         Written::Length(n) => {
             text(b": length ");
@@ -236,56 +228,73 @@ fn written(label: &[u8], w: Written, out: &[u8]) {
     text(b"\n");
 }
 
+fn get(label: &[u8], name: &[u8], out: &mut [u8]) {
+    text(label);
+    let w = packet::property_get(0x1234, name, out);
+    written(w, out);
+}
+
+fn file(label: &[u8], location: &[u8], offset: Offset, out: &mut [u8]) {
+    text(label);
+    let w = packet::file_request(0xff01, location, offset, out);
+    written(w, out);
+}
+
+fn ends(location: &[u8], out: &mut [u8]) {
+    text(b"fetched");
+    let w = packet::fetched(256, location, out);
+    written(w, out);
+    text(b"stop");
+    let v = packet::stop(255, out);
+    written(v, out);
+}
+
 fn gets(out: &mut [u8]) {
-    written(b"no name", packet::property_get(1, b"", out), out);
-    written(b"get h1", packet::property_get(0x1234, b"h1", out), out);
+    get(b"no name", b"", out);
+    get(b"get h1", b"h1", out);
 }
 
 fn files(out: &mut [u8]) {
-    written(
-        b"no location",
-        packet::file_request(1, b"", Offset::Omitted, out),
-        out,
-    );
-    written(
-        b"file",
-        packet::file_request(0x0203, b"loc", Offset::Omitted, out),
-        out,
-    );
-    written(
-        b"file from",
-        packet::file_request(65535, b"loc", Offset::Given(0x01020304), out),
-        out,
-    );
+    file(b"no location", b"", Offset::Omitted, out);
+    file(b"file", b"loc", Offset::Omitted, out);
+    file(b"file from", b"loc", Offset::Given(0x01020304), out);
 }
 
-fn ends(out: &mut [u8]) {
-    written(b"fetched", packet::fetched(256, b"loc", out), out);
-    written(b"stop", packet::stop(255, out), out);
+fn requests(out: &mut [u8]) {
+    gets(out);
+    files(out);
+    ends(b"loc", out);
 }
 
-fn writers() {
-    let mut wide = [0xeeu8; 18];
-    gets(&mut wide);
-    files(&mut wide);
-    ends(&mut wide);
-    let mut narrow = [0xddu8; 8];
-    gets(&mut narrow);
-    files(&mut narrow);
-    ends(&mut narrow);
-    let mut small = [0xccu8; 3];
-    gets(&mut small);
-    files(&mut small);
-    ends(&mut small);
+fn roomy() {
+    let mut out = [0xeeu8; 18];
+    requests(&mut out);
+}
+
+fn tight() {
+    let mut out = [0xddu8; 8];
+    requests(&mut out);
+}
+
+fn short() {
+    let mut out = [0xccu8; 3];
+    requests(&mut out);
 }
 
 fn main() {
-    examples();
+    sent();
+    received();
     long_strings();
     fragments();
+    edges();
     empty_items();
     cuts(b"\x01\x03\x00\x00\x01\x02h1\x16\x04\x00\x00\x0d\x7a\x14\x00");
-    names();
+    names(b"h1\nH1\nx\nZz-_09aAyY\nabcdefghijklmnopqrstuvwxyz0\nabcdefghijklmnopqrstuvwxyz01\n");
+    names(
+        b"\n1h\n-h\n_h\nh 1\nh.1\nh/1\nh:1\nh@1\nh[1\nh`1\nh{1\nh,1\n@h\n[h\n`h\n{h\nh\xc3\xa91\n",
+    );
     locations();
-    writers();
+    roomy();
+    tight();
+    short();
 }

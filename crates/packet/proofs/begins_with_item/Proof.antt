@@ -1,13 +1,10 @@
 -- `packet::begins_with_item` meets its contract: each return answers the tests that were made on the way to it.
-use mathlib.Core.Path.{_≡_}
 use native.Mathlib.Omega.{arith}
 use borrow.Author.Needs.{needs}
 use borrow.Author.Tests.{le-leb, lt-leb, eq-eqb, ne-eqb}
 use Rattle.packet.specs.Walk.{beginsWithItem}
 use Rattle.packet.proofs.begins_with_item.Statement.{statement}
 use Rattle.packet.proofs.begins_with_item.Tie as tie
-use Rattle.packet.proofs.begins_with_item.Reads as reads
-use Rattle.packet.proofs.begins_with_item.Lts as lts
 
 returns : tie.Need-returns
 unfolding beginsWithItem

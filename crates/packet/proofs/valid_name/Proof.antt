@@ -1,11 +1,10 @@
 -- `packet::valid_name` meets its contract. Once the length and the first letter are good the bytes settle it, and the invariant
 -- says that those not yet passed settle it alike.
 use mathlib.Core.Path.{_≡_, refl, sym, _∙_}
-use mathlib.Core.Bool.{true, false}
+use mathlib.Core.Bool.{false}
 use Prim.Native.Nat.{_-_, _≤_}
 use native.Mathlib.Numerals.{add-one}
 use native.Mathlib.Omega.{arith}
-use borrow.Author.Needs.{needs}
 use borrow.Author.Tests.{le-leb, lt-leb, not-true, not-false}
 use lib.ListN.{length, getD, drop}
 use Rattle.packet.specs.Names.{between, isLetter, allNameBytes, validName}

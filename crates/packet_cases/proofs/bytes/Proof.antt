@@ -1,5 +1,5 @@
 -- `packet_cases::bytes` is safe and ends: the measure is what is left of the slice.
-use Prim.Native.Nat.{_+_, _-_, _≤_}
+use Prim.Native.Nat.{_-_, _≤_}
 use native.Mathlib.Omega.{arith}
 use borrow.Author.Needs.{needs}
 use lib.ListN.{length}

@@ -1,0 +1,29 @@
+-- The known answers hold: both columns of the table compute to the same.
+use mathlib.Core.Path.{_≡_, refl}
+use mathlib.Core.List.{List, map}
+use Rattle.slices.specs.Same.{sameBytes}
+use Rattle.crc.specs.Crc.{shiftBit, shiftBits, addByte, crcOf}
+use Rattle.frame.specs.Stuffing.{stuff, unstuffFrom, unstuff}
+use Rattle.frame.specs.Content.{contentOf, judged}
+use Rattle.frame.specs.Writing.{framed}
+use Rattle.frame.specs.Reading.{readRun}
+use Rattle.packet.specs.Names.{between, isLetter, isNameByte, allNameBytes, validName}
+use Rattle.packet.specs.Items.{inFront, itemsUpTo, itemsFilling, emptyIfEof, eofsEmpty, ifEofsEmpty, itemsOf, countOf, headOf, firstOf, behindOf}
+use Rattle.packet.specs.Packet.{isData, withItems, packetOf}
+use Rattle.rows.specs.Names.{placeFrom}
+use Rattle.value.specs.Value.{numberOf, valueOf}
+use Rattle.board.specs.Reading.{taskOfItems, taskOf, valueOfItem, withValue, withName, verdictOf, ifWatched, readingOf}
+use Rattle.ledger.specs.Ledger.{moreAt, updated}
+use Rattle.ledger.specs.Frames.{turn, taken, frameOf}
+use Rattle.ledger.specs.Calls.{step, after}
+use Rattle.answers.specs.Table.{Case, Result, table}
+
+abbrev computed : Case → Result
+computed c = c .computed
+
+abbrev answer : Case → Result
+answer c = c .answer
+
+pub known-answers : map computed table ≡ map answer table
+unfolding crcOf addByte shiftBits shiftBit stuff contentOf framed unstuffFrom unstuff judged readRun turn taken frameOf step after moreAt updated readingOf ifWatched verdictOf withName withValue valueOfItem taskOf taskOfItems valueOf numberOf placeFrom sameBytes packetOf isData withItems itemsOf ifEofsEmpty itemsFilling itemsUpTo inFront eofsEmpty emptyIfEof countOf firstOf behindOf headOf validName between isLetter isNameByte allNameBytes
+known-answers = refl

@@ -1,3 +1,3 @@
 pub mod Fragment
 pub mod Transfer
-pub mod Received
+pub mod Calls

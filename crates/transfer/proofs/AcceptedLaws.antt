@@ -1,0 +1,105 @@
+-- What an accepted fragment has passed: each test that could have refused it, read back from the verdict.
+use mathlib.Core.Path.{_≡_, refl, sym, ap, _∙_}
+use mathlib.Core.Bool.{Bool, true, false, cond, not, _&&_, _||_}
+use mathlib.Core.List.{List}
+use Prim.Native.Nat.{ℕ, _+_, _≤_}
+use native.Mathlib.Omega.{arith}
+use lib.Dec.{eqb, ltb}
+use lib.ListN.{length}
+use borrow.Author.Tests.{eqb-true, ltb-false, not-true}
+use Rattle.slices.specs.Same.{sameBytes}
+use Rattle.packet.specs.Items.{Item}
+use Rattle.packet.specs.Packet.{Judged, packet, refused, judgedItems}
+use Rattle.transfer.specs.Fragment.{binaryKind, locationKind, valueIn, formOf}
+use Rattle.transfer.specs.Transfer.{fragmentOpcode, locationOf, knownLength, passesLength, endsEarly, judgeEnd, judgeForm, verdictOf}
+use Rattle.transfer.specs.declared.Declared.{Declared}
+use Rattle.transfer.specs.declared.Declared.the-variants.{Unknown, Known}
+use Rattle.transfer.specs.declared.Form.{Form}
+use Rattle.transfer.specs.declared.Form.the-variants.{Good, Bad}
+use Rattle.transfer.specs.declared.Verdict.{Verdict}
+use Rattle.transfer.specs.declared.Verdict.the-variants.{Accepted, Refused}
+use Rattle.transfer.specs.declared.Transfer.{Transfer}
+
+-- an accepted fragment of the transfer: it stands at the next offset, ends within the buffer and the declared length, and is
+-- the last only where it reaches that length
+pub record AcceptedBy (transfer : Transfer) (room count offset next : ℕ) (declared : Declared) (last : Bool) : Type 0 where
+  pub at-next : offset ≡ transfer .next
+  pub not-complete : transfer .complete ≡ false
+  pub grown : next ≡ offset + count
+  pub in-room : next ≤ room
+  pub in-length : passesLength declared next room ≡ false
+  pub not-early : endsEarly declared last next ≡ false
+
+record Both (t u s : Bool) : Type 0 where
+  first : t ≡ s
+  second : u ≡ s
+
+both : (t u : Bool) → (t && u) ≡ true → Both t u true
+both true u h = record { first = refl; second = h }
+both false u h = let z : _≡_ {A = ℕ} 0 1 = cc in absurd (omega arith)
+
+neither : (t u : Bool) → (t || u) ≡ false → Both t u false
+neither true u h = let z : _≡_ {A = ℕ} 0 1 = cc in absurd (omega arith)
+neither false u h = record { first = refl; second = h }
+
+module _ (offset next : ℕ) (declared : Declared) (last : Bool) where
+  abbrev Accepts : Verdict → Type 0
+  Accepts v = v ≡ Accepted offset next declared last
+
+  record Past (t s : Bool) (v : Verdict) : Type 0 where
+    test : t ≡ s
+    on : Accepts v
+
+  -- past a test that refuses where it fails, and past one that refuses where it holds
+  kept : (t : Bool) (v : Verdict) (number : ℕ) → Accepts (cond t v (Refused number)) → Past t true v
+  kept true v number e = record { test = refl; on = e }
+  kept false v number e = let z : _≡_ {A = ℕ} 0 1 = cc in absurd (omega arith)
+
+  passed : (t : Bool) (v : Verdict) (number : ℕ) → Accepts (cond t (Refused number) v) → Past t false v
+  passed true v number e = let z : _≡_ {A = ℕ} 0 1 = cc in absurd (omega arith)
+  passed false v number e = record { test = refl; on = e }
+
+  module _ (transfer : Transfer) (room : ℕ) (items : List Item) where
+    abbrev count : ℕ
+    count = length (valueIn binaryKind items)
+
+    accepted-end : (at : ℕ) (length-known : Declared) (end : Bool) → at ≡ transfer .next → transfer .complete ≡ false → Accepts (judgeEnd room at count length-known end) → AcceptedBy transfer room count offset next declared last
+    unfolding judgeEnd
+    accepted-end at length-known end is-next going e =
+        let fits = passed (ltb room (at + count) || passesLength length-known (at + count) room) _ 18 e in
+        let late = passed (endsEarly length-known end (at + count)) _ 19 (fits .on) in
+        let tests = neither (ltb room (at + count)) (passesLength length-known (at + count) room) (fits .test) in
+        let o : at ≡ offset = cc (late .on) in
+        let n : at + count ≡ next = cc (late .on) in
+        let d : length-known ≡ declared = cc (late .on) in
+        let l : end ≡ last = cc (late .on) in
+        record {
+          at-next = sym o ∙ is-next;
+          not-complete = going;
+          grown = sym n ∙ ap (λ (k : ℕ). k + count) o;
+          in-room = rw n at (ltb-false room (at + count) (tests .first));
+          in-length = rw (n, d) at (tests .second);
+          not-early = rw (n, d, l) at (late .test);
+        }
+
+    accepted-form : (form : Form) → Accepts (judgeForm transfer room items form) → AcceptedBy transfer room count offset next declared last
+    unfolding judgeForm
+    accepted-form Bad e = let z : _≡_ {A = ℕ} 0 1 = cc in absurd (omega arith)
+    accepted-form (Good at length-declared end) e =
+        let ours = kept (sameBytes (valueIn locationKind items) (locationOf transfer)) _ 16 e in
+        let going = kept (eqb at (transfer .next) && not (transfer .complete)) _ 17 (ours .on) in
+        let tests = both (eqb at (transfer .next)) (not (transfer .complete)) (going .test) in
+        accepted-end at (knownLength length-declared (transfer .declared)) end (eqb-true at (transfer .next) (tests .first)) (not-true (transfer .complete) (tests .second)) (going .on)
+
+  pub accepted : (transfer : Transfer) (room : ℕ) (j : Judged) → verdictOf transfer room j ≡ Accepted offset next declared last → AcceptedBy transfer room (length (valueIn binaryKind (judgedItems j))) offset next declared last
+  unfolding verdictOf judgedItems
+  accepted transfer room (refused number) e = let z : _≡_ {A = ℕ} 0 1 = cc in absurd (omega arith)
+  accepted transfer room (packet p) e = accepted-form transfer room (p .items) (formOf (p .items)) (kept (eqb (p .opcode) fragmentOpcode) _ 11 e .on)
+
+-- a last fragment reaches the declared length exactly
+pub last-reaches : (total next room : ℕ) → passesLength (Known total) next room ≡ false → endsEarly (Known total) true next ≡ false → next ≡ total
+unfolding passesLength endsEarly
+last-reaches total next room within late =
+    let most : next ≤ total = ltb-false total next (neither (ltb total next) (ltb room total) within .first) in
+    let least : total ≤ next = ltb-false next total late in
+    omega arith

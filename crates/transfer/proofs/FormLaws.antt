@@ -1,0 +1,130 @@
+-- The laws of a fragment's form, one for each way through the code: what the tests on the way say of the items settles it.
+use mathlib.Core.Path.{_≡_, refl}
+use mathlib.Core.Bool.{Bool, true, false}
+use mathlib.Core.List.{List, [], _∷_}
+use mathlib.Core.Option.{some, none}
+use Prim.Native.Nat.{ℕ, _+_, _*_, _≤_, _<_}
+use native.Mathlib.Omega.{arith}
+use lib.Dec.{eqb}
+use lib.ListN.{length, getD}
+use borrow.Author.Tests.{eq-eqb, ne-eqb, lt-ltb, le-ltb, le-leb, lt-leb}
+use Rattle.packet.specs.Items.{Item, eofKind, countOf, firstOf}
+use Rattle.transfer.specs.Fragment.{binaryKind, offsetKind, lengthKind, locationKind, valueOf, valueIn, pairOf, numberOf, rightItems, isLast, rightBinary, rightLocation, declaring, formAt, formOf}
+use Rattle.transfer.specs.declared.Declared.the-variants.{Unknown}
+use Rattle.transfer.specs.declared.Number.the-variants.{Is, NoNumber}
+use Rattle.transfer.specs.declared.Form.the-variants.{Good, Bad}
+
+-- the value of the first item of a kind, where there is one and where there is none
+module _ (kind : ℕ) (items : List Item) where
+  pub value-some : (item : Item) → firstOf kind items ≡ some item → valueIn kind items ≡ item .value
+  unfolding valueIn valueOf
+  value-some item e = rw e
+
+  pub value-none : firstOf kind items ≡ none → valueIn kind items ≡ []
+  unfolding valueIn valueOf
+  value-none e = rw e
+
+-- a number by the length of its bytes
+pub number-one : (bytes : List ℕ) → length bytes ≡ 1 → numberOf bytes ≡ Is (getD bytes 0 0)
+unfolding numberOf
+number-one [] h = absurd (omega arith)
+number-one (a ∷ []) h = refl
+number-one (a ∷ b ∷ more) h = absurd (omega arith)
+
+pub number-two : (bytes : List ℕ) → length bytes ≡ 2 → numberOf bytes ≡ Is (pairOf (getD bytes 0 0) (getD bytes 1 0))
+unfolding numberOf
+number-two [] h = absurd (omega arith)
+number-two (a ∷ []) h = absurd (omega arith)
+number-two (a ∷ b ∷ []) h = refl
+number-two (a ∷ b ∷ c ∷ more) h = absurd (omega arith)
+
+pub number-four : (bytes : List ℕ) → length bytes ≡ 4 → numberOf bytes ≡ Is (pairOf (getD bytes 0 0) (getD bytes 1 0) * 65536 + pairOf (getD bytes 2 0) (getD bytes 3 0))
+unfolding numberOf
+number-four [] h = absurd (omega arith)
+number-four (a ∷ []) h = absurd (omega arith)
+number-four (a ∷ b ∷ []) h = absurd (omega arith)
+number-four (a ∷ b ∷ c ∷ []) h = absurd (omega arith)
+number-four (a ∷ b ∷ c ∷ d ∷ []) h = refl
+number-four (a ∷ b ∷ c ∷ d ∷ e ∷ more) h = absurd (omega arith)
+
+pub number-none : (bytes : List ℕ) → (length bytes ≡ 1 → ⊥) → (length bytes ≡ 2 → ⊥) → (length bytes ≡ 4 → ⊥) → numberOf bytes ≡ NoNumber
+unfolding numberOf
+number-none [] one two four = refl
+number-none (a ∷ []) one two four = absurd (one refl)
+number-none (a ∷ b ∷ []) one two four = absurd (two refl)
+number-none (a ∷ b ∷ c ∷ []) one two four = refl
+number-none (a ∷ b ∷ c ∷ d ∷ []) one two four = absurd (four refl)
+number-none (a ∷ b ∷ c ∷ d ∷ e ∷ more) one two four = refl
+
+module _ (items : List Item) where
+  -- the counts of the kinds, tested in their order
+  pub items-location : (countOf locationKind items ≡ 1 → ⊥) → rightItems items ≡ false
+  unfolding rightItems
+  items-location h = rw (ne-eqb (countOf locationKind items) 1 h)
+
+  module _ (location : countOf locationKind items ≡ 1) where
+    pub items-offset : (countOf offsetKind items ≡ 1 → ⊥) → rightItems items ≡ false
+    unfolding rightItems
+    items-offset h = rw (location, ne-eqb (countOf offsetKind items) 1 h)
+
+    module _ (offset : countOf offsetKind items ≡ 1) where
+      pub items-binary : (countOf binaryKind items ≡ 1 → ⊥) → rightItems items ≡ false
+      unfolding rightItems
+      items-binary h = rw (location, offset, ne-eqb (countOf binaryKind items) 1 h)
+
+      module _ (binary : countOf binaryKind items ≡ 1) where
+        pub items-lengths : 1 < countOf lengthKind items → rightItems items ≡ false
+        unfolding rightItems
+        items-lengths h = rw (location, offset, binary, lt-leb (countOf lengthKind items) 1 h)
+
+        module _ (lengths : countOf lengthKind items ≤ 1) where
+          pub items-ends : 1 < countOf eofKind items → rightItems items ≡ false
+          unfolding rightItems
+          items-ends h = rw (location, offset, binary, le-leb (countOf lengthKind items) 1 lengths, lt-leb (countOf eofKind items) 1 h)
+
+          pub items-all : countOf eofKind items ≤ 1 → rightItems items ≡ eqb (length items) (countOf lengthKind items + countOf eofKind items + 3)
+          unfolding rightItems
+          items-all h = rw (location, offset, binary, le-leb (countOf lengthKind items) 1 lengths, le-leb (countOf eofKind items) 1 h)
+
+  -- a Binary with bytes, and one without
+  pub binary-some : 0 < length (valueIn binaryKind items) → rightBinary items ≡ true
+  unfolding rightBinary
+  binary-some h = rw (lt-ltb 0 (length (valueIn binaryKind items)) h)
+
+  pub binary-none : length (valueIn binaryKind items) ≤ 0 → rightBinary items ≡ isLast items
+  unfolding rightBinary
+  binary-none h = rw (le-ltb 0 (length (valueIn binaryKind items)) h)
+
+  -- a fragment at an offset, without and with a Length
+  module _ (offset : ℕ) where
+    pub at-undeclared : countOf lengthKind items ≡ 0 → formAt items (Is offset) ≡ Good offset Unknown (isLast items)
+    unfolding formAt
+    at-undeclared h = rw h
+
+    module _ (some-length : countOf lengthKind items ≡ 0 → ⊥) where
+      pub at-late : (offset ≡ 0 → ⊥) → formAt items (Is offset) ≡ Bad
+      unfolding formAt
+      at-late h = rw (ne-eqb (countOf lengthKind items) 0 some-length, ne-eqb offset 0 h)
+
+      pub at-declared : offset ≡ 0 → formAt items (Is offset) ≡ declaring offset (isLast items) (numberOf (valueIn lengthKind items))
+      unfolding formAt
+      at-declared h = rw (ne-eqb (countOf lengthKind items) 0 some-length, eq-eqb offset 0 h)
+
+  -- the whole form
+  pub form-items : rightItems items ≡ false → formOf items ≡ Bad
+  unfolding formOf
+  form-items h = rw h
+
+  module _ (right : rightItems items ≡ true) where
+    pub form-location : rightLocation items ≡ false → formOf items ≡ Bad
+    unfolding formOf
+    form-location h = rw (right, h)
+
+    module _ (location : rightLocation items ≡ true) where
+      pub form-binary : rightBinary items ≡ false → formOf items ≡ Bad
+      unfolding formOf
+      form-binary h = rw (right, location, h)
+
+      pub form-at : rightBinary items ≡ true → formOf items ≡ formAt items (numberOf (valueIn offsetKind items))
+      unfolding formOf
+      form-at h = rw (right, location, h)

@@ -1,0 +1,97 @@
+-- The laws of judging a fragment, one for each way through the code: what the tests on the way say settles the verdict, and
+-- the verdict settles what becomes of the transfer and the file buffer.
+use mathlib.Core.Path.{_≡_, refl, sym, _∙_}
+use mathlib.Core.Bool.{Bool, true, false}
+use mathlib.Core.List.{List}
+use Prim.Native.Nat.{ℕ, _+_, _≤_, _<_}
+use native.Mathlib.Omega.{arith}
+use lib.ListN.{length}
+use borrow.Author.Tests.{eq-eqb, ne-eqb, lt-ltb, le-ltb}
+use Rattle.slices.specs.Put.{putAt}
+use Rattle.slices.specs.Same.{sameBytes}
+use Rattle.packet.specs.Items.{Item}
+use Rattle.packet.specs.Packet.{Judged, packet, refused, judgedItems, packetItems}
+use Rattle.packet.specs.Answers as packet-answers
+use Rattle.packet.specs.declared.Reading.the-variants as packet-reading
+use Rattle.transfer.specs.Fragment.{binaryKind, locationKind, valueIn, formOf}
+use Rattle.transfer.specs.Transfer.{fragmentOpcode, refusedWith, locationOf, knownLength, passesLength, endsEarly, judgeEnd, judgeForm, verdictOf, advanced, outcomeBy, fileBy, verdictFor, Takes}
+use Rattle.transfer.specs.declared.Declared.{Declared}
+use Rattle.transfer.specs.declared.Form.the-variants.{Good}
+use Rattle.transfer.specs.declared.Verdict.the-variants.{Accepted, Refused}
+use Rattle.transfer.specs.declared.Transfer.{Transfer}
+use Rattle.transfer.specs.declared.Answer.the-variants as answer
+
+-- where a fragment ends
+module _ (room offset count : ℕ) (declared : Declared) (last : Bool) where
+  pub end-past-room : room < offset + count → judgeEnd room offset count declared last ≡ Refused 18
+  unfolding judgeEnd
+  end-past-room h = rw (lt-ltb room (offset + count) h)
+
+  module _ (fits : offset + count ≤ room) where
+    pub end-past-length : passesLength declared (offset + count) room ≡ true → judgeEnd room offset count declared last ≡ Refused 18
+    unfolding judgeEnd
+    end-past-length h = rw (le-ltb room (offset + count) fits, h)
+
+    module _ (within : passesLength declared (offset + count) room ≡ false) where
+      pub end-early : endsEarly declared last (offset + count) ≡ true → judgeEnd room offset count declared last ≡ Refused 19
+      unfolding judgeEnd
+      end-early h = rw (le-ltb room (offset + count) fits, within, h)
+
+      pub end-good : endsEarly declared last (offset + count) ≡ false → judgeEnd room offset count declared last ≡ Accepted offset (offset + count) declared last
+      unfolding judgeEnd
+      end-good h = rw (le-ltb room (offset + count) fits, within, h)
+
+-- a fragment of a good form
+module _ (transfer : Transfer) (room : ℕ) (items : List Item) (offset : ℕ) (declared : Declared) (last : Bool) where
+  pub form-other : sameBytes (valueIn locationKind items) (locationOf transfer) ≡ false → judgeForm transfer room items (Good offset declared last) ≡ Refused 16
+  unfolding judgeForm
+  form-other h = rw h
+
+  module _ (ours : sameBytes (valueIn locationKind items) (locationOf transfer) ≡ true) where
+    pub form-gap : (offset ≡ transfer .next → ⊥) → judgeForm transfer room items (Good offset declared last) ≡ Refused 17
+    unfolding judgeForm
+    form-gap h = rw (ours, ne-eqb offset (transfer .next) h)
+
+    module _ (next : offset ≡ transfer .next) where
+      pub form-complete : transfer .complete ≡ true → judgeForm transfer room items (Good offset declared last) ≡ Refused 17
+      unfolding judgeForm
+      form-complete h = rw (ours, eq-eqb offset (transfer .next) next, h)
+
+      pub form-next : transfer .complete ≡ false → judgeForm transfer room items (Good offset declared last) ≡ judgeEnd room offset (length (valueIn binaryKind items)) (knownLength declared (transfer .declared)) last
+      unfolding judgeForm
+      form-next h = rw (ours, eq-eqb offset (transfer .next) next, h)
+
+-- what the packet reader answered
+module _ (transfer : Transfer) (room : ℕ) where
+  pub verdict-refused : (j : Judged) (number : ℕ) → packet-answers.readingOf j ≡ packet-reading.Refused number → verdictOf transfer room j ≡ Refused number
+  unfolding packet-answers.readingOf verdictOf
+  verdict-refused (packet p) number e = let z : _≡_ {A = ℕ} 0 1 = cc in absurd (omega arith)
+  verdict-refused (refused found) number e = cc
+
+  pub verdict-fragment : (j : Judged) (opcode id : ℕ) → packet-answers.readingOf j ≡ packet-reading.Packet opcode id → opcode ≡ fragmentOpcode → verdictOf transfer room j ≡ judgeForm transfer room (judgedItems j) (formOf (judgedItems j))
+  unfolding packet-answers.readingOf verdictOf judgedItems
+  verdict-fragment (packet p) opcode id e is =
+      let o : p .opcode ≡ opcode = cc in
+      rw (eq-eqb (p .opcode) fragmentOpcode (o ∙ is))
+  verdict-fragment (refused found) opcode id e is = let z : _≡_ {A = ℕ} 0 1 = cc in absurd (omega arith)
+
+  pub verdict-other : (j : Judged) (opcode id : ℕ) → packet-answers.readingOf j ≡ packet-reading.Packet opcode id → (opcode ≡ fragmentOpcode → ⊥) → verdictOf transfer room j ≡ Refused 11
+  unfolding packet-answers.readingOf verdictOf
+  verdict-other (packet p) opcode id e isn't =
+      let o : p .opcode ≡ opcode = cc in
+      rw (ne-eqb (p .opcode) fragmentOpcode (λ same. isn't (sym o ∙ same)))
+  verdict-other (refused found) opcode id e isn't = let z : _≡_ {A = ℕ} 0 1 = cc in absurd (omega arith)
+
+-- a refusal changes nothing; an accepted fragment is written at its offset
+module _ (transfer : Transfer) (bytes file : List ℕ) where
+  pub takes-nothing : (number : ℕ) → verdictFor transfer bytes file ≡ Refused number → Takes transfer bytes file file (refusedWith transfer number)
+  unfolding outcomeBy fileBy
+  takes-nothing number e = record { answered = rw e; written = rw e }
+
+  pub takes-fragment :
+      (after : List ℕ) (offset next : ℕ) (declared : Declared) (last : Bool)
+      → verdictFor transfer bytes file ≡ Accepted offset next declared last
+      → after ≡ putAt file offset (valueIn binaryKind (packetItems bytes))
+      → Takes transfer bytes file after (record { transfer = advanced transfer next declared last; answer = answer.Accepted })
+  unfolding outcomeBy fileBy
+  takes-fragment after offset next declared last e put = record { answered = rw e; written = rw e put }

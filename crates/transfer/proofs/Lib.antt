@@ -1,0 +1,5 @@
+pub mod AcceptedLaws
+pub mod FormLaws
+pub mod JudgeLaws
+pub mod LocationLaws
+pub mod WholeFile

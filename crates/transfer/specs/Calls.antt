@@ -1,0 +1,43 @@
+-- 01, File fragments: the calls of `take` on one transfer, with the same file buffer, which nothing else touches.
+use Prim.Native.Nat.{ℕ}
+use mathlib.Core.List.{List, [], _∷_, _++_}
+use Rattle.packet.specs.Packet.{packetItems}
+use Rattle.transfer.specs.Fragment.{binaryKind, valueIn}
+use Rattle.transfer.specs.Transfer.{startOf, Takes}
+use Rattle.transfer.specs.declared.Transfer.{Transfer}
+use Rattle.transfer.specs.declared.Answer.{Answer}
+use Rattle.transfer.specs.declared.Answer.the-variants.{Accepted, Refused}
+use Rattle.transfer.specs.declared.Outcome.{Outcome}
+
+-- the bytes of the packet's fragment where it was accepted: of a refused one none
+unfoldable pub acceptedBytes : List ℕ → Answer → List ℕ
+acceptedBytes bytes Accepted = valueIn binaryKind (packetItems bytes)
+acceptedBytes bytes (Refused number) = []
+
+-- what a call is given, and the accepted fragments before it, joined in order
+pub record Held : Type 0 where
+  pub transfer : Transfer
+  pub file : List ℕ
+  pub joined : List ℕ
+
+-- what the first call is given: the transfer that `start` answered
+abbrev pub started : List ℕ → List ℕ → Held
+started location file = record { transfer = startOf location .transfer; file = file; joined = [] }
+
+-- what a call with a packet leaves for the next one
+abbrev pub left : Held → List ℕ → List ℕ → Outcome → Held
+left held bytes after outcome =
+    record {
+      transfer = outcome .transfer;
+      file = after;
+      joined = held .joined ++ acceptedBytes bytes (outcome .answer);
+    }
+
+-- a list of packets, each given to a call that meets the contract of `take`, and what the last call leaves
+pub data Calls : Held → List (List ℕ) → Held → Type 0 where
+  none : (held : Held) → Calls held [] held
+  call :
+      (held end : Held) (bytes after : List ℕ) (outcome : Outcome) (packets : List (List ℕ))
+      → Takes (held .transfer) bytes (held .file) after outcome
+      → Calls (left held bytes after outcome) packets end
+      → Calls held (bytes ∷ packets) end

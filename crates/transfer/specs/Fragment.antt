@@ -1,0 +1,91 @@
+-- 01, File fragments: what a packet's items say as a fragment, and when they have a good form.
+use Prim.Native.Nat.{ℕ, _+_, _*_}
+use mathlib.Core.Bool.{Bool, cond, _&&_, _||_}
+use mathlib.Core.List.{List, [], _∷_}
+use mathlib.Core.Option.{Option, none, some}
+use lib.Dec.{leb, ltb, eqb}
+use lib.ListN.{length}
+use Rattle.packet.specs.Items.{Item, eofKind, countOf, firstOf}
+use Rattle.packet.specs.Names.{validLocation}
+use Rattle.transfer.specs.declared.Declared.{Declared}
+use Rattle.transfer.specs.declared.Declared.the-variants.{Unknown, Known}
+use Rattle.transfer.specs.declared.Number.{Number}
+use Rattle.transfer.specs.declared.Number.the-variants.{Is, NoNumber}
+use Rattle.transfer.specs.declared.Form.{Form}
+use Rattle.transfer.specs.declared.Form.the-variants.{Good, Bad}
+
+-- 01, File fragments: Binary (04), Length (12); Items and packets: Offset (11), Location (13)
+abbrev pub binaryKind : ℕ
+binaryKind = 0x04
+
+abbrev pub offsetKind : ℕ
+offsetKind = 0x11
+
+abbrev pub lengthKind : ℕ
+lengthKind = 0x12
+
+abbrev pub locationKind : ℕ
+locationKind = 0x13
+
+-- the value of an item, no bytes where there is none
+unfoldable pub valueOf : Option Item → List ℕ
+valueOf none = []
+valueOf (some item) = item .value
+
+-- the value of the first item of the kind
+unfoldable pub valueIn : ℕ → List Item → List ℕ
+valueIn kind items = valueOf (firstOf kind items)
+
+-- two bytes as a number, high byte first
+abbrev pub pairOf : ℕ → ℕ → ℕ
+pairOf high low = high * 256 + low
+
+-- 01, File fragments: Offset and Length are unsigned, 1, 2 or 4 bytes. The high byte is first, as in all of 01.
+unfoldable pub numberOf : List ℕ → Number
+numberOf [] = NoNumber
+numberOf (a ∷ []) = Is a
+numberOf (a ∷ b ∷ []) = Is (pairOf a b)
+numberOf (a ∷ b ∷ c ∷ []) = NoNumber
+numberOf (a ∷ b ∷ c ∷ d ∷ []) = Is (pairOf a b * 65536 + pairOf c d)
+numberOf (a ∷ b ∷ c ∷ d ∷ e ∷ more) = NoNumber
+
+-- 01, File fragments: exactly one Location, one Offset, one Binary, at most one Length and at most one EOF, in any order,
+-- and nothing else: these are all the items
+unfoldable pub rightItems : List Item → Bool
+rightItems items =
+    eqb (countOf locationKind items) 1
+    && eqb (countOf offsetKind items) 1
+    && eqb (countOf binaryKind items) 1
+    && leb (countOf lengthKind items) 1
+    && leb (countOf eofKind items) 1
+    && eqb (length items) (countOf lengthKind items + countOf eofKind items + 3)
+
+-- whether there is an EOF item
+unfoldable pub isLast : List Item → Bool
+isLast items = ltb 0 (countOf eofKind items)
+
+-- 01, File fragments: empty Binary needs EOF
+unfoldable pub rightBinary : List Item → Bool
+rightBinary items = ltb 0 (length (valueIn binaryKind items)) || isLast items
+
+-- 01, Items and packets: locations have 1 to 64 bytes
+unfoldable pub rightLocation : List Item → Bool
+rightLocation items = validLocation (valueIn locationKind items)
+
+-- a fragment at the offset, with the length that its Length item declares
+unfoldable pub declaring : ℕ → Bool → Number → Form
+declaring offset last (Is total) = Good offset (Known total) last
+declaring offset last NoNumber = Bad
+
+-- 01, File fragments: Length may stand only at offset 0
+unfoldable pub formAt : List Item → Number → Form
+formAt items NoNumber = Bad
+formAt items (Is offset) =
+    cond (eqb (countOf lengthKind items) 0)
+    (Good offset Unknown (isLast items))
+    (cond (eqb offset 0) (declaring offset (isLast items) (numberOf (valueIn lengthKind items))) Bad)
+
+-- the form of the items: a good fragment's offset, the length that it declares, and whether it is the last
+unfoldable pub formOf : List Item → Form
+formOf items =
+    cond (rightItems items && rightLocation items && rightBinary items) (formAt items (numberOf (valueIn offsetKind items))) Bad

@@ -1,5 +1,8 @@
 // A stream from standard input, cut in two at every place and into pieces of one byte, gives the same
-// replies, packets, counts and board as the whole.
+// replies, packets, counts and board as the whole. The stream: noise, case 6 with sequence 01 twice, a
+// frame with a bit changed, an escape byte right before a flag, an update of a name that is not
+// watched, two bytes between flags, an end mark, an acknowledgement, an update with sequence 7d, and
+// the first bytes of a frame.
 use crate::feeding::Passed;
 use crate::feeding::hive;
 use crate::feeding::pass;

@@ -1,6 +1,6 @@
 // Feeds a stream from standard input to a display, in pieces of the size that the first argument
-// says and as often as the second says, and prints the counts and the value of h1. `make bench`
-// times it.
+// says and as often as the second says, and prints the counts and what h1 shows, without its sign.
+// `make bench-receive` times it on long streams; the stored run is a short one.
 use display::Display;
 ghost use Prim.Native.Nat.{_≤_, min};
 use rows::Row;

@@ -1,12 +1,13 @@
 # The C and Rust side of Arznavik: the example, the host tests and the benchmark, over the static
 # library that `rt staticlib host` proves and builds.
 #
-#   make          build the library and the example
-#   make run      run the example on the bundled capture
-#   make test     run the host tests
-#   make bench    measure speed, stack and code size
-#   make measure  measure stack and code size alone
-#   make clean    remove what this file built, the library apart
+#   make                build the library and the example
+#   make run            run the example on the bundled capture
+#   make test           run the host tests
+#   make bench          measure speed, stack and code size
+#   make bench-receive  measure the speed of the receiver alone
+#   make measure        measure stack and code size alone
+#   make clean          remove what this file built, the library apart
 
 ARCHIVE ?= target/staticlib/libhost.a
 OUT ?= target/host
@@ -23,12 +24,14 @@ BENCH_CFLAGS := -std=c99 -O3 $(WARNINGS) -Iinclude
 HEADERS := $(wildcard include/*.h host/*/*.h)
 C_TESTS := known_answers writer reader header collector
 TESTS := $(C_TESTS) serial reference differential
-MEASURED := host/bench/workload.c host/bench/plain_frame.c host/bench/plain_crc.c
+PLAIN := host/bench/plain_frame.c host/bench/plain_crc.c
+MEASURED := host/bench/workload.c $(PLAIN)
+RECEIVER ?= target/bin/receive_bench
 
 # What a rule compiles and links: its prerequisites without the headers.
 INPUTS = $(filter-out %.h,$^)
 
-.PHONY: all run test bench measure clean
+.PHONY: all run test bench bench-receive measure clean
 .DELETE_ON_ERROR:
 
 all: $(ARCHIVE) $(OUT)/display
@@ -91,13 +94,26 @@ test: $(addprefix $(OUT)/,$(TESTS)) $(OUT)/display
 $(OUT)/speed $(OUT)/stack: $(OUT)/%: host/bench/%.c $(MEASURED) $(HEADERS) $(ARCHIVE) | $(OUT)
 	$(CC) $(BENCH_CFLAGS) -o $@ $(INPUTS)
 
+$(OUT)/receive $(OUT)/plain_receiver: $(OUT)/%: host/bench/%.c $(PLAIN) $(HEADERS) | $(OUT)
+	$(CC) $(BENCH_CFLAGS) -o $@ $(INPUTS)
+
+$(OUT)/table_receiver: host/bench/plain_receiver.c $(PLAIN) $(HEADERS) | $(OUT)
+	$(CC) $(BENCH_CFLAGS) -DCONTENT_CRC=table_crc -o $@ $(INPUTS)
+
+target/bin/receive_bench: crates.txt $(shell find crates -type f)
+	rt check receive_bench
+	touch $@
+
 measure: $(OUT)/stack
 	@$(OUT)/stack
 	@echo "code size in bytes (text)"
 	@$(SIZE) $(ARCHIVE)
 
-bench: $(OUT)/speed measure
+bench: $(OUT)/speed measure bench-receive
 	@$(OUT)/speed
+
+bench-receive: $(addprefix $(OUT)/,receive plain_receiver table_receiver) $(RECEIVER)
+	@$(OUT)/receive $(RECEIVER) $(OUT)/plain_receiver $(OUT)/table_receiver
 
 clean:
 	rm -rf $(OUT)

@@ -1,0 +1,42 @@
+-- A call with buffers of 9 and 383 bytes takes some of its piece: the display takes what its link takes.
+use mathlib.Core.Path.{_≡_, refl, ap, _∙_}
+use mathlib.Core.List.{List}
+use Prim.Native.Nat.{ℕ, _+_, _-_, _≤_, _<_}
+use lib.ListN.{length, take, drop, length-take, length-drop}
+use native.Mathlib.Omega.{arith}
+use Rattle.rows.specs.declared.Board.{Board}
+use Rattle.link.specs.Receiving.{Call, receiveOf}
+use Rattle.link.specs.declared.receiver.Answer as link-answer
+use Rattle.link.proofs.TakenLaws.{taken-progress, taken-within}
+use Rattle.display.specs.Display.{resultOf, receivePiece, DisplaysAs}
+use Rattle.display.specs.declared.Display.{Display}
+use Rattle.display.specs.declared.Received.{Received}
+use Rattle.display_cases.specs.Taking.{Takes}
+
+result-taken : (answer : link-answer.Answer) (board : Board) (call : Call) → resultOf answer board call .taken ≡ call .taken
+result-taken link-answer.the-variants.Nothing board call = refl
+result-taken (link-answer.the-variants.Refused n) board call = refl
+result-taken (link-answer.the-variants.Heard sequence) board call = refl
+result-taken (link-answer.the-variants.Again reply) board call = refl
+result-taken (link-answer.the-variants.New reply packet) board call = refl
+
+pub takes : (display : Display) (piece reply packet reply₁ packet₁ : List ℕ) (received : Received)
+    → DisplaysAs (receivePiece display piece 9 383) reply packet received reply₁ packet₁ → Takes piece (received .taken)
+unfolding receivePiece
+takes display piece reply packet reply₁ packet₁ received r =
+    let call = receiveOf (display .link) piece 9 383 in
+    let same : received .taken ≡ call .taken =
+    ap (λ (x : Received). x .taken) (r .answers) ∙ result-taken (call .answer) (display .board) call in
+    rw same
+    (record {
+      within = taken-within (display .link) piece 9 383;
+      some = taken-progress (display .link) piece 9 383 (omega arith) (omega arith);
+    })
+
+-- the rest of a stream loses some, and no more than it has
+pub taken-of-rest : (stream : List ℕ) (at taken : ℕ) → at < length stream → Takes (take (length stream - at) (drop at stream)) taken
+    → (0 < taken) × (at + taken ≤ length stream)
+taken-of-rest stream at taken h t =
+    let size : length (take (length stream - at) (drop at stream)) ≡ length stream - at = simp (length-take, length-drop) (omega arith) in
+    let most = t .within in
+    (t .some (omega arith), omega arith)

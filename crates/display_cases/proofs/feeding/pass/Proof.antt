@@ -1,0 +1,57 @@
+-- `display_cases::feeding::pass` ends, since each call takes some of the rest.
+use Rattle.display_cases.proofs.TakingLaws.{taken-of-rest}
+use borrow.Author.Needs.{needs}
+use native.Mathlib.Omega.{arith}
+use Prim.Native.Nat.{_-_, _≤_}
+use lib.ListN.{length}
+use Rattle.display_cases.proofs.feeding.pass.Statement.{statement}
+use Rattle.display_cases.proofs.feeding.pass.Tie as tie
+
+abbrev Inv-loop : tie.InvT-loop
+Inv-loop stream shown passed₀ at₀ passed at = at ≤ length stream
+
+abbrev μ-loop : tie.MeasureT-loop
+μ-loop stream shown passed₀ at₀ passed at = length stream - at
+
+loop-holds : tie.Need-loop-holds Inv-loop μ-loop
+loop-holds c = search needs
+
+sub-take-piece : tie.Need-sub-take-piece Inv-loop μ-loop
+sub-take-piece c = search needs
+
+part-take-piece-start : tie.Need-part-take-piece-start Inv-loop μ-loop
+part-take-piece-start c = search needs
+
+part-take-piece-end : tie.Need-part-take-piece-end Inv-loop μ-loop
+part-take-piece-end c = search needs
+
+take-piece-requires : tie.Need-take-piece-requires Inv-loop μ-loop
+take-piece-requires c κs = search needs
+
+add-at : tie.Need-add-at Inv-loop μ-loop
+add-at c = let r = taken-of-rest (c .before .before .before .before .before .before .before .args .stream .now) (c .before .before .before .before .before .loop .at) _ (c .before .before .before .before .loop-test .taken) (c .before .before .take-piece .ensures) in omega (arith, r .0, r .1)
+
+loop-less : tie.Need-loop-less Inv-loop μ-loop
+loop-less c = let r = taken-of-rest (c .before .before .before .before .before .before .before .args .stream .now) (c .before .before .before .before .before .loop .at) _ (c .before .before .before .before .loop-test .taken) (c .before .before .take-piece .ensures) in omega (arith, r .0, r .1)
+
+loop-again : tie.Need-loop-again Inv-loop μ-loop
+loop-again c = let r = taken-of-rest (c .before .before .before .before .before .before .before .args .stream .now) (c .before .before .before .before .before .loop .at) _ (c .before .before .before .before .loop-test .taken) (c .before .before .take-piece .ensures) in omega (arith, r .0, r .1)
+
+returns : tie.Need-returns Inv-loop μ-loop
+returns c = search needs
+
+pub pass-spec : {M : Type 1} → statement M
+pass-spec =
+    tie.close
+    (tie.spec
+    Inv-loop
+    μ-loop
+    loop-holds
+    sub-take-piece
+    part-take-piece-start
+    part-take-piece-end
+    take-piece-requires
+    add-at
+    loop-less
+    loop-again
+    returns)

@@ -1,0 +1,51 @@
+-- `display_cases::report::print_rows` is safe and ends: the measure is what is left of the rows.
+use Prim.Native.Nat.{_-_, _≤_}
+use borrow.Author.Needs.{needs}
+use Rattle.rows.specs.Rows.{rowCount}
+use Rattle.display_cases.proofs.report.print_rows.Statement.{statement}
+use Rattle.display_cases.proofs.report.print_rows.Tie as tie
+
+abbrev Inv-loop : tie.InvT-loop
+Inv-loop board i₀ i = i ≤ rowCount
+
+abbrev μ-loop : tie.MeasureT-loop
+μ-loop board i₀ i = rowCount - i
+
+loop-holds : tie.Need-loop-holds Inv-loop μ-loop
+loop-holds c = search needs
+
+mul-row : tie.Need-mul-row Inv-loop μ-loop
+mul-row c = search needs
+
+element-copy-out-row : tie.Need-element-copy-out-row Inv-loop μ-loop
+element-copy-out-row c = search needs
+
+print-row-requires : tie.Need-print-row-requires Inv-loop μ-loop
+print-row-requires c κs = search needs
+
+add-i : tie.Need-add-i Inv-loop μ-loop
+add-i c = search needs
+
+loop-less : tie.Need-loop-less Inv-loop μ-loop
+loop-less c = search needs
+
+loop-again : tie.Need-loop-again Inv-loop μ-loop
+loop-again c = search needs
+
+returns : tie.Need-returns Inv-loop μ-loop
+returns c = search needs
+
+pub print-rows-spec : {M : Type 1} → statement M
+print-rows-spec =
+    tie.close
+    (tie.spec
+    Inv-loop
+    μ-loop
+    loop-holds
+    mul-row
+    element-copy-out-row
+    print-row-requires
+    add-i
+    loop-less
+    loop-again
+    returns)

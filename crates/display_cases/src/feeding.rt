@@ -1,0 +1,74 @@
+// Streams fed to a display, one call after the other.
+use crate::report::print_answer;
+use display::Answer;
+use display::Display;
+ghost use Rattle.display_cases.specs.Taking.{Takes};
+
+// A display, and a check over all that was handed out on the way to it.
+pub struct Passed {
+    pub display: Display,
+    pub check: u16,
+}
+
+struct Call {
+    passed: Passed,
+    taken: usize,
+}
+
+// A fresh display that watches h1 and h2.
+pub fn hive() -> Display {
+    let watched = board::watch_list(b"\x01\x00\x02h1\x01\x00\x02h2");
+    display::start(watched.board)
+}
+
+// Feeds a whole stream and prints each answer.
+pub fn feed(display: Display, stream: &[u8]) -> Display {
+    let passed = pass(Passed { display, check: 0 }, stream, true);
+    passed.display
+}
+
+// Feeds a whole stream; `shown` says whether the answers are printed.
+pub fn pass(before: Passed, stream: &[u8], shown: bool) -> Passed {
+    let mut passed = before;
+    let mut at: usize = 0;
+    while at < stream.len() {
+        let call = take_piece(passed, &stream[at..], shown);
+        passed = call.passed;
+        at += call.taken;
+    }
+    passed
+}
+
+// One call with buffers of the least size; they count where it brought a frame.
+fn take_piece(before: Passed, piece: &[u8], shown: bool) -> Call
+    ensures { λ r. ⌜ Takes (now (piece .entry)) (r .taken) ⌝ }
+{
+    let mut reply = [0u8; 9];
+    let mut packet = [0u8; 383];
+    let display = before.display;
+    let received = display::receive(display, piece, &mut reply, &mut packet);
+    let answer = received.answer;
+    let check = marked(before.check, answer, &reply, &packet);
+    show(shown, received.taken, answer, &reply, &packet);
+    let next = received.display;
+    Call {
+        passed: Passed {
+            display: next,
+            check,
+        },
+        taken: received.taken,
+    }
+}
+
+fn show(shown: bool, taken: usize, answer: Answer, reply: &[u8], packet: &[u8]) {
+    if shown {
+        print_answer(taken, answer, reply, packet);
+    }
+}
+
+fn marked(check: u16, answer: Answer, reply: &[u8], packet: &[u8]) -> u16 {
+    if let Answer::Nothing = answer {
+        return check;
+    }
+    crc::check(crc::check(check, reply), packet)
+}

@@ -1,0 +1,65 @@
+-- `receive_bench::feed_rounds` ends.
+use Prim.Native.Nat.{_-_, _≤_}
+use mathlib.Core.Path.{_≡_, _∙_}
+use borrow.Author.Needs.{needs}
+use lib.ListN.{length}
+use Rattle.receive_bench.proofs.feed_rounds.Statement.{statement}
+use Rattle.receive_bench.proofs.feed_rounds.Tie as tie
+
+abbrev Inv-loop : tie.InvT-loop
+Inv-loop stream size rounds reply₀ packet₀ next₀ i₀ reply packet next i =
+    (i ≤ rounds) × (length reply ≡ 9) × (length packet ≡ 383)
+
+abbrev μ-loop : tie.MeasureT-loop
+μ-loop stream size rounds reply₀ packet₀ next₀ i₀ reply packet next i = rounds - i
+
+slice-aggregate-watch-list : tie.Need-slice-aggregate-watch-list Inv-loop μ-loop
+slice-aggregate-watch-list c = search needs
+
+watch-list-requires : tie.Need-watch-list-requires Inv-loop μ-loop
+watch-list-requires c κs = search needs
+
+start-requires : tie.Need-start-requires Inv-loop μ-loop
+start-requires c κs = search needs
+
+loop-holds : tie.Need-loop-holds Inv-loop μ-loop
+loop-holds c = search needs
+
+slice-aggregate-feed : tie.Need-slice-aggregate-feed Inv-loop μ-loop
+slice-aggregate-feed c = search needs
+
+slice-aggregate-feed-2 : tie.Need-slice-aggregate-feed-2 Inv-loop μ-loop
+slice-aggregate-feed-2 c = search needs
+
+feed-requires : tie.Need-feed-requires Inv-loop μ-loop
+feed-requires c κs = search needs
+
+add-i : tie.Need-add-i Inv-loop μ-loop
+add-i c = search needs
+
+loop-less : tie.Need-loop-less Inv-loop μ-loop
+loop-less c = search needs
+
+loop-again : tie.Need-loop-again Inv-loop μ-loop
+loop-again c = search needs
+
+returns : tie.Need-returns Inv-loop μ-loop
+returns c = search needs
+
+pub feed-rounds-spec : {M : Type 1} → statement M
+feed-rounds-spec =
+    tie.close
+    (tie.spec
+    Inv-loop
+    μ-loop
+    slice-aggregate-watch-list
+    watch-list-requires
+    start-requires
+    loop-holds
+    slice-aggregate-feed
+    slice-aggregate-feed-2
+    feed-requires
+    add-i
+    loop-less
+    loop-again
+    returns)

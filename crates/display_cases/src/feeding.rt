@@ -2,7 +2,7 @@
 use crate::report::print_answer;
 use display::Answer;
 use display::Display;
-ghost use Rattle.display_cases.specs.Taking.{Takes};
+ghost use Rattle.display.specs.Taking.{Takes};
 
 // A display, and a check over all that was handed out on the way to it.
 pub struct Passed {

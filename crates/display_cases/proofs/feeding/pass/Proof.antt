@@ -1,5 +1,5 @@
 -- `display_cases::feeding::pass` ends, since each call takes some of the rest.
-use Rattle.display_cases.proofs.TakingLaws.{taken-of-rest}
+use Rattle.display.proofs.TakingLaws.{taken-of-rest}
 use borrow.Author.Needs.{needs}
 use native.Mathlib.Omega.{arith}
 use Prim.Native.Nat.{_-_, _≤_}

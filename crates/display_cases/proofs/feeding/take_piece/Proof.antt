@@ -1,5 +1,5 @@
 -- `display_cases::feeding::take_piece` takes what its call takes.
-use Rattle.display_cases.proofs.TakingLaws.{takes}
+use Rattle.display.proofs.TakingLaws.{takes}
 use borrow.Author.Needs.{needs}
 use Rattle.display_cases.proofs.feeding.take_piece.Statement.{statement}
 use Rattle.display_cases.proofs.feeding.take_piece.Tie as tie

@@ -8,17 +8,17 @@ use Rattle.rows.specs.declared.Board.{Board}
 use Rattle.link.specs.Receiving.{Call, receiveOf}
 use Rattle.link.specs.declared.receiver.Answer as link-answer
 use Rattle.link.proofs.TakenLaws.{taken-progress, taken-within}
 use Rattle.display.specs.Display.{resultOf, receivePiece, DisplaysAs}
 use Rattle.display.specs.declared.Display.{Display}
 use Rattle.display.specs.declared.Received.{Received}
-use Rattle.display_cases.specs.Taking.{Takes}
+use Rattle.display.specs.Taking.{Takes}
 
-result-taken : (answer : link-answer.Answer) (board : Board) (call : Call) → resultOf answer board call .taken ≡ call .taken
-result-taken link-answer.the-variants.Nothing board call = refl
-result-taken (link-answer.the-variants.Refused n) board call = refl
-result-taken (link-answer.the-variants.Heard sequence) board call = refl
-result-taken (link-answer.the-variants.Again reply) board call = refl
-result-taken (link-answer.the-variants.New reply packet) board call = refl
+pub taken-by-link : (answer : link-answer.Answer) (board : Board) (call : Call) → resultOf answer board call .taken ≡ call .taken
+taken-by-link link-answer.the-variants.Nothing board call = refl
+taken-by-link (link-answer.the-variants.Refused n) board call = refl
+taken-by-link (link-answer.the-variants.Heard sequence) board call = refl
+taken-by-link (link-answer.the-variants.Again reply) board call = refl
+taken-by-link (link-answer.the-variants.New reply packet) board call = refl
 
 pub takes : (display : Display) (piece reply packet reply₁ packet₁ : List ℕ) (received : Received)
     → DisplaysAs (receivePiece display piece 9 383) reply packet received reply₁ packet₁ → Takes piece (received .taken)
@@ -26,7 +26,7 @@ unfolding receivePiece
 takes display piece reply packet reply₁ packet₁ received r =
     let call = receiveOf (display .link) piece 9 383 in
     let same : received .taken ≡ call .taken =
-    ap (λ (x : Received). x .taken) (r .answers) ∙ result-taken (call .answer) (display .board) call in
+    ap (λ (x : Received). x .taken) (r .answers) ∙ taken-by-link (call .answer) (display .board) call in
     rw same
     (record {
       within = taken-within (display .link) piece 9 383;

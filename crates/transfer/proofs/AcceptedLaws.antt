@@ -13,7 +13,7 @@ use Rattle.packet.specs.Packet.{Judged, packet, refused, judgedItems}
 use Rattle.transfer.specs.Fragment.{binaryKind, locationKind, valueIn, formOf}
 use Rattle.transfer.specs.Transfer.{fragmentOpcode, locationOf, knownLength, passesLength, endsEarly, judgeEnd, judgeForm, verdictOf}
 use Rattle.transfer.specs.declared.Declared.{Declared}
-use Rattle.transfer.specs.declared.Declared.the-variants.{Unknown, Known}
+use Rattle.transfer.specs.declared.Declared.the-variants.{Known}
 use Rattle.transfer.specs.declared.Form.{Form}
 use Rattle.transfer.specs.declared.Form.the-variants.{Good, Bad}
 use Rattle.transfer.specs.declared.Verdict.{Verdict}

@@ -1,6 +1,6 @@
 -- The laws of judging a fragment, one for each way through the code: what the tests on the way say settles the verdict, and
 -- the verdict settles what becomes of the transfer and the file buffer.
-use mathlib.Core.Path.{_≡_, refl, sym, _∙_}
+use mathlib.Core.Path.{_≡_, sym, _∙_}
 use mathlib.Core.Bool.{Bool, true, false}
 use mathlib.Core.List.{List}
 use Prim.Native.Nat.{ℕ, _+_, _≤_, _<_}

@@ -7,7 +7,6 @@ use lib.Dec.{leb, ltb, eqb}
 use lib.ListN.{length}
 use Rattle.packet.specs.Items.{Item, eofKind, countOf, firstOf}
 use Rattle.packet.specs.Names.{validLocation}
-use Rattle.transfer.specs.declared.Declared.{Declared}
 use Rattle.transfer.specs.declared.Declared.the-variants.{Unknown, Known}
 use Rattle.transfer.specs.declared.Number.{Number}
 use Rattle.transfer.specs.declared.Number.the-variants.{Is, NoNumber}

@@ -12,7 +12,6 @@ use Rattle.packet.specs.Packet.{packetItems}
 use Rattle.transfer.specs.Fragment.{binaryKind, locationKind, valueIn}
 use Rattle.transfer.specs.Transfer.{locationOf, judgeEnd, judgeForm}
 use Rattle.transfer.specs.declared.Declared.{Declared}
-use Rattle.transfer.specs.declared.Verdict.{Verdict}
 use Rattle.transfer.proofs.JudgeLaws.{form-other, form-gap, form-complete, form-next}
 use borrow.Author.Needs.{needs}
 use Rattle.transfer.proofs.judge_form.Statement.{statement}

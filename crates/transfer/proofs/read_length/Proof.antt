@@ -4,7 +4,6 @@ use mathlib.Core.List.{List}
 use Rattle.packet.specs.Items.{Item}
 use Rattle.packet.specs.Packet.{packetItems}
 use Rattle.transfer.specs.Fragment.{lengthKind, valueIn, numberOf, isLast, declaring, formAt}
-use Rattle.transfer.specs.declared.Form.{Form}
 use Rattle.transfer.specs.declared.Number.the-variants.{Is}
 use Rattle.transfer.proofs.FormLaws.{at-undeclared, at-late, at-declared}
 use borrow.Author.Needs.{needs}

@@ -1,7 +1,6 @@
 -- `transfer::right_items` meets its contract: the counts are tested in the order of the definition, and each way has its law.
 use mathlib.Core.Path.{_≡_, sym, _∙_}
 use mathlib.Core.List.{List}
-use Prim.Native.Nat.{ℕ}
 use Rattle.packet.specs.Items.{Item, countOf}
 use Rattle.packet.specs.Packet.{packetItems}
 use Rattle.transfer.specs.Fragment.{binaryKind, offsetKind, locationKind}

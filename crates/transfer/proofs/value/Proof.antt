@@ -1,9 +1,8 @@
 -- `transfer::value` meets its contract: the place that the packet's function answers is that of the item, so the bytes there are
 -- its value.
 use mathlib.Core.Path.{_≡_, sym, ap, _∙_}
-use mathlib.Core.List.{List}
 use mathlib.Core.Option.{some}
-use Prim.Native.Nat.{ℕ, _+_, _-_, _≤_}
+use Prim.Native.Nat.{_+_, _-_, _≤_}
 use native.Mathlib.Omega.{arith}
 use lib.ListN.{length, take, drop}
 use Rattle.packet.specs.Items.{Item, firstOf}

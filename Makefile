@@ -3,12 +3,13 @@
 #
 #   make          build the library and the example
 #   make run      run the example on the bundled capture
-#   make test     run the host tests
+#   make test     run the host tests, and replay the histories of examples/
 #   make bench    measure speed, stack and code size
 #   make measure  measure stack and code size alone
 #   make clean    remove what this file built, the library apart
 
 ARCHIVE ?= target/staticlib/libhost.a
+REPLAY ?= target/bin/replay
 OUT ?= target/host
 RUSTC ?= rustc
 SIZE ?= size
@@ -36,6 +37,10 @@ all: $(ARCHIVE) $(OUT)/display
 # rt proves again only what has changed.
 target/staticlib/libhost.a: crates.txt $(shell find crates -type f)
 	rt staticlib host
+	touch $@
+
+target/bin/replay: crates.txt $(shell find crates -type f)
+	rt check replay
 	touch $@
 
 $(OUT):
@@ -75,7 +80,7 @@ $(OUT)/differential: host/differential/main.rs $(wildcard host/differential/*.rs
 		host/reference/frame.rs $(ARCHIVE) | $(OUT)
 	$(RUSTC) $(RUSTFLAGS) -C link-arg=$(ARCHIVE) -o $@ $<
 
-test: $(addprefix $(OUT)/,$(TESTS)) $(OUT)/display
+test: $(addprefix $(OUT)/,$(TESTS)) $(OUT)/display $(REPLAY)
 	@set -e; for test in $(C_TESTS); do $(OUT)/$$test; done
 	@$(OUT)/display examples/line.capture >$(OUT)/line.from-file
 	@diff -u examples/line.expected $(OUT)/line.from-file
@@ -83,6 +88,7 @@ test: $(addprefix $(OUT)/,$(TESTS)) $(OUT)/display
 	@diff -u examples/line.expected $(OUT)/line.from-input
 	@echo "example: the capture gives its expected lines, from a file and from standard input"
 	@$(OUT)/serial $(OUT)/display
+	@host/histories/run.sh $(REPLAY) examples/histories
 	@$(OUT)/reference --quiet
 	@$(OUT)/differential
 

@@ -2,14 +2,17 @@
 # library that `rt staticlib host` proves and builds.
 #
 #   make                build the library and the example
-#   make run            run the example on the bundled capture
-#   make test           run the host tests
+#   make run            build `replay` and show the board of a bundled history
+#   make example        run the example firmware loop on the bundled capture
+#   make test           run the host tests, and replay the histories of examples/
+#   make soak           compare `replay` with the reference on a million histories
 #   make bench          measure speed, stack and code size
 #   make bench-receive  measure the speed of the receiver alone
 #   make measure        measure stack and code size alone
 #   make clean          remove what this file built, the library apart
 
 ARCHIVE ?= target/staticlib/libhost.a
+REPLAY ?= target/bin/replay
 OUT ?= target/host
 RUSTC ?= rustc
 SIZE ?= size
@@ -23,7 +26,7 @@ BENCH_CFLAGS := -std=c99 -O3 $(WARNINGS) -Iinclude
 
 HEADERS := $(wildcard include/*.h host/*/*.h)
 C_TESTS := known_answers writer reader header collector
-TESTS := $(C_TESTS) serial reference differential
+TESTS := $(C_TESTS) serial reference differential replay_reference replay_test
 PLAIN := host/bench/plain_frame.c host/bench/plain_crc.c
 MEASURED := host/bench/workload.c $(PLAIN)
 RECEIVER ?= target/bin/receive_bench
@@ -31,7 +34,7 @@ RECEIVER ?= target/bin/receive_bench
 # What a rule compiles and links: its prerequisites without the headers.
 INPUTS = $(filter-out %.h,$^)
 
-.PHONY: all run test bench bench-receive measure clean
+.PHONY: all run example test soak bench bench-receive measure clean
 .DELETE_ON_ERROR:
 
 all: $(ARCHIVE) $(OUT)/display
@@ -39,6 +42,10 @@ all: $(ARCHIVE) $(OUT)/display
 # rt proves again only what has changed.
 target/staticlib/libhost.a: crates.txt $(shell find crates -type f)
 	rt staticlib host
+	touch $@
+
+target/bin/replay: crates.txt $(shell find crates -type f)
+	rt check replay
 	touch $@
 
 $(OUT):
@@ -49,7 +56,10 @@ $(OUT):
 $(OUT)/display: $(addprefix host/example/,main.c collector.c line.c) $(HEADERS) $(ARCHIVE) | $(OUT)
 	$(CC) $(CFLAGS) -o $@ $(INPUTS)
 
-run: $(OUT)/display
+run: $(REPLAY)
+	$(REPLAY) <examples/histories/case_6.history
+
+example: $(OUT)/display
 	$(OUT)/display examples/line.capture
 
 # The tests
@@ -78,7 +88,15 @@ $(OUT)/differential: host/differential/main.rs $(wildcard host/differential/*.rs
 		host/reference/frame.rs $(ARCHIVE) | $(OUT)
 	$(RUSTC) $(RUSTFLAGS) -C link-arg=$(ARCHIVE) -o $@ $<
 
-test: $(addprefix $(OUT)/,$(TESTS)) $(OUT)/display
+$(OUT)/replay_test: host/replay/main.rs $(wildcard host/replay/*.rs host/reference/*.rs) \
+		host/differential/random.rs | $(OUT)
+	$(RUSTC) $(RUSTFLAGS) -o $@ $<
+
+$(OUT)/replay_reference: host/replay/main.rs $(wildcard host/replay/*.rs host/reference/*.rs) \
+		host/differential/random.rs | $(OUT)
+	$(RUSTC) $(RUSTFLAGS) --test -o $@ $<
+
+test: $(addprefix $(OUT)/,$(TESTS)) $(OUT)/display $(REPLAY)
 	@set -e; for test in $(C_TESTS); do $(OUT)/$$test; done
 	@$(OUT)/display examples/line.capture >$(OUT)/line.from-file
 	@diff -u examples/line.expected $(OUT)/line.from-file
@@ -86,8 +104,14 @@ test: $(addprefix $(OUT)/,$(TESTS)) $(OUT)/display
 	@diff -u examples/line.expected $(OUT)/line.from-input
 	@echo "example: the capture gives its expected lines, from a file and from standard input"
 	@$(OUT)/serial $(OUT)/display
+	@host/histories/run.sh $(REPLAY) examples/histories
 	@$(OUT)/reference --quiet
 	@$(OUT)/differential
+	@$(OUT)/replay_reference --quiet
+	@$(OUT)/replay_test $(REPLAY) 20000 1
+
+soak: $(OUT)/replay_test $(REPLAY)
+	$(OUT)/replay_test $(REPLAY) 1000000 $$(date +%s)
 
 # The measurements
 

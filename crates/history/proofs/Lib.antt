@@ -1,0 +1,4 @@
+pub mod AppendingLaws
+pub mod LineLaws
+pub mod NumberLaws
+pub mod RowLine

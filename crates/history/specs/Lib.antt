@@ -1,0 +1,4 @@
+pub mod Appending
+pub mod Fields
+pub mod Lines
+pub mod Numbers

@@ -1,0 +1,175 @@
+#!/usr/bin/env python3
+"""Histories to replay, with the lines that document 01 asks of each.
+
+The histories are built from 01's rules for frames and fields; the expected lines are written out
+by hand. `cases.py DIR` writes NAME.history and NAME.expected for each case into DIR.
+"""
+import pathlib
+import sys
+
+
+def check(content):
+    """The 16-bit check of 01: polynomial 1021, start ffff, high bit first."""
+    register = 0xFFFF
+    for byte in content:
+        register ^= byte << 8
+        for _ in range(8):
+            register = (register << 1) ^ (0x1021 if register & 0x8000 else 0)
+            register &= 0xFFFF
+    return register.to_bytes(2, "big")
+
+
+def framed(content):
+    escapes = {0x7D: b"\x7d\x5d", 0x7E: b"\x7d\x5e"}
+    return b"\x7e" + b"".join(escapes.get(b, bytes([b])) for b in content) + b"\x7e"
+
+
+def frame(kind, sequence, payload=b""):
+    content = bytes([kind, sequence]) + payload
+    return framed(content + check(content))
+
+
+def item(kind, value):
+    return bytes([kind, len(value)]) + value
+
+
+def packet(*items, opcode=3):
+    return bytes([1, opcode, 0, 0]) + b"".join(items)
+
+
+def field(tag, value=b""):
+    return bytes([tag]) + len(value).to_bytes(2, "big") + value
+
+
+def names(*list_of_names):
+    return b"".join(field(1, name) for name in list_of_names)
+
+
+def received(data):
+    return field(2, data)
+
+
+TICK = field(3)
+H1 = item(1, b"h1")
+CENTS = item(0x16, b"\x00\x00\x0d\x7a")
+UPDATE = packet(H1, CENTS)
+REPLY = "reply 7e02007b6d7e"
+REPLY_1 = "reply 7e02016b4c7e"
+
+
+def integer(value, size):
+    return item(2, value.to_bytes(size, "big", signed=True))
+
+
+def counts(new=0, again=0, heard=0, unread=0, refused=(0, 0, 0, 0, 0, 0)):
+    return [
+        f"new {new} again {again} heard {heard} unread {unread}",
+        "refused " + " ".join(str(count) for count in refused),
+    ]
+
+
+def refused_frame(data, number):
+    refused = [0] * 6
+    refused[number - 1] = 1
+    return names(b"h1") + received(data), ["h1 never"] + counts(refused=refused)
+
+
+def refused_packet(payload):
+    history = names(b"h1") + received(frame(1, 0, payload))
+    return history, [REPLY, "h1 never"] + counts(new=1, unread=1)
+
+
+def shown(value_item, value):
+    history = names(b"h1") + received(frame(1, 0, packet(H1, value_item)))
+    return history, [REPLY, f"h1 current {value} 0"] + counts(new=1)
+
+
+def broken(history, *before):
+    return history, list(before) + ["refused 15"]
+
+
+def numbered(count):
+    return names(*(b"hive%d" % number for number in range(1, count + 1)))
+
+
+def cases():
+    case_6 = bytes.fromhex("7e01000103000001026831160400000d7a1aa47e")
+    again = frame(1, 1, UPDATE)
+    yield "case_6", names(b"h1", b"h2") + received(case_6) + TICK, [
+        REPLY, "h1 current 3450 1", "h2 never"] + counts(new=1)
+    yield "empty", b"", counts()
+    yield "empty_piece", names(b"h1") + received(b""), ["h1 never"] + counts()
+    yield "ticks_alone", TICK + TICK, counts()
+
+    yield "refusal_1", *refused_frame(b"\x7e\x01\x7d\x41\x7e", 1)
+    yield "refusal_1_at_the_flag", *refused_frame(b"\x7e\x01\x00\x00\x00\x7d\x7e", 1)
+    yield "refusal_2", *refused_frame(frame(1, 0, bytes(384)), 2)
+    yield "refusal_3", *refused_frame(b"\x7e\x01\x02\x03\x7e", 3)
+    yield "refusal_4", *refused_frame(case_6[:-2] + b"\xa5\x7e", 4)
+    yield "refusal_5", *refused_frame(frame(3, 0, UPDATE), 5)
+    yield "refusal_6", *refused_frame(frame(2, 0, b"\x00"), 6)
+
+    yield "refusal_9", *refused_packet(b"\x01\x03\x00")
+    yield "refusal_10", *refused_packet(packet(b"\x01\x05h"))
+    yield "refusal_11", *refused_packet(packet(H1, CENTS, opcode=0x0B))
+    yield "refusal_12", *refused_packet(packet(CENTS))
+    yield "refusal_13", *refused_packet(packet(H1, item(2, b"\x00\x00\x01")))
+    yield "refusal_14", *refused_packet(packet(item(1, b"h9"), CENTS))
+    yield "longest_payload", *refused_packet(bytes(383))
+    yield "end_mark", names(b"h1") + received(frame(1, 0, packet(item(0x14, b"")))), [
+        REPLY, "h1 never"] + counts(new=1)
+
+    yield "repeated", names(b"h1") + received(again) + TICK + received(again), [
+        REPLY_1, REPLY_1, "h1 current 3450 1"] + counts(new=1, again=1)
+    yield "sequence_0_is_new", names(b"h1") + received(case_6) + TICK + received(case_6), [
+        REPLY, REPLY, "h1 current 3450 0"] + counts(new=2)
+    yield "escaped_reply", names(b"h1") + received(frame(1, 0x7D, UPDATE)), [
+        "reply 7e027d5dd4577e", "h1 current 3450 0"] + counts(new=1)
+    yield "heard", names(b"h1") + received(frame(2, 5)), ["h1 never"] + counts(heard=1)
+    yield "two_frames_in_a_field", names(b"h1") + received(b"noise" + again + case_6), [
+        REPLY_1, REPLY, "h1 current 3450 0"] + counts(new=2)
+    yield "cut_between_fields", names(b"h1") + received(case_6[:7]) + received(case_6[7:]), [
+        REPLY, "h1 current 3450 0"] + counts(new=1)
+
+    yield "age_29", names(b"h1") + received(case_6) + TICK * 29, [
+        REPLY, "h1 current 3450 29"] + counts(new=1)
+    yield "silent_at_30", names(b"h1") + received(case_6) + TICK * 30, [
+        REPLY, "h1 silent"] + counts(new=1)
+    yield "current_again", names(b"h1") + received(case_6) + TICK * 31 + received(case_6), [
+        REPLY, REPLY, "h1 current 3450 0"] + counts(new=2)
+
+    yield "zero", *shown(integer(0, 1), "0")
+    yield "minus_200", *shown(integer(-200, 2), "-200")
+    yield "least", *shown(integer(-(2**63), 8), "-9223372036854775808")
+    yield "greatest", *shown(integer(2**63 - 1, 8), "9223372036854775807")
+    yield "boolean", *shown(item(0x0F, b"\x01"), "1")
+
+    yield "name_of_27", names(b"h" * 27), ["h" * 27 + " never"] + counts()
+    yield "name_of_28", *broken(names(b"h" * 28))
+    yield "names_16", numbered(16), [f"hive{n} never" for n in range(1, 17)] + counts()
+    yield "names_17", *broken(numbered(17))
+
+    yield "bad_name", *broken(names(b"1h"))
+    yield "name_twice", *broken(names(b"h1", b"h2", b"h1"))
+    yield "name_empty", *broken(names(b""))
+    yield "name_after_a_tick", *broken(names(b"h1") + TICK + names(b"h2"))
+    yield "name_after_a_piece", *broken(received(b"") + names(b"h2"))
+    yield "other_tag", *broken(names(b"h1") + received(case_6) + field(4) + TICK, REPLY)
+    yield "tick_of_1", *broken(names(b"h1") + field(3, b"\x00"))
+    yield "field_of_4096", received(bytes(4096)), counts()
+    yield "field_of_4097", *broken(received(bytes(4097)))
+    yield "cut_tag", *broken(names(b"h1") + b"\x03")
+    yield "cut_length", *broken(names(b"h1") + b"\x03\x00")
+    yield "cut_name", *broken(names(b"h1")[:-1])
+    yield "cut_piece", *broken(names(b"h1") + received(case_6) + received(case_6)[:-1], REPLY)
+
+
+def main():
+    folder = pathlib.Path(sys.argv[1])
+    folder.mkdir(parents=True, exist_ok=True)
+    for name, history, lines in cases():
+        (folder / f"{name}.history").write_bytes(history)
+        (folder / f"{name}.expected").write_text("".join(line + "\n" for line in lines))
+
+
+main()

@@ -5,6 +5,7 @@
 #   make run            build `replay` and show the board of a bundled history
 #   make example        run the example firmware loop on the bundled capture
 #   make test           run the host tests, and replay the histories of examples/
+#   make history_text   build the tool between histories and readable texts, target/host/history_text
 #   make soak           compare `replay` with the reference on a million histories
 #   make bench          measure speed, stack and code size
 #   make bench-receive  measure the speed of the receiver alone
@@ -26,7 +27,8 @@ BENCH_CFLAGS := -std=c99 -O3 $(WARNINGS) -Iinclude
 
 HEADERS := $(wildcard include/*.h host/*/*.h)
 C_TESTS := known_answers writer reader header collector
-TESTS := $(C_TESTS) serial reference differential replay_reference replay_test
+TESTS := $(C_TESTS) serial reference differential replay_reference replay_test \
+	history_text history_text_test
 PLAIN := host/bench/plain_frame.c host/bench/plain_crc.c
 MEASURED := host/bench/workload.c $(PLAIN)
 RECEIVER ?= target/bin/receive_bench
@@ -34,7 +36,7 @@ RECEIVER ?= target/bin/receive_bench
 # What a rule compiles and links: its prerequisites without the headers.
 INPUTS = $(filter-out %.h,$^)
 
-.PHONY: all run example test soak bench bench-receive measure clean
+.PHONY: all run example history_text test soak bench bench-receive measure clean
 .DELETE_ON_ERROR:
 
 all: $(ARCHIVE) $(OUT)/display
@@ -62,7 +64,17 @@ run: $(REPLAY)
 example: $(OUT)/display
 	$(OUT)/display examples/line.capture
 
+# The tool between histories and readable texts
+
+history_text: $(OUT)/history_text
+
+$(OUT)/history_text: host/history_text/main.rs host/history_text/text.rs | $(OUT)
+	$(RUSTC) $(RUSTFLAGS) -o $@ $<
+
 # The tests
+
+$(OUT)/history_text_test: host/history_text/main.rs host/history_text/text.rs | $(OUT)
+	$(RUSTC) $(RUSTFLAGS) --test -o $@ $<
 
 $(OUT)/expect.o $(OUT)/calls.o: $(OUT)/%.o: host/tests/%.c $(HEADERS) | $(OUT)
 	$(CC) $(CFLAGS) -c -o $@ $<
@@ -107,6 +119,9 @@ test: $(addprefix $(OUT)/,$(TESTS)) $(OUT)/display $(REPLAY)
 	@host/histories/run.sh $(REPLAY) examples/histories
 	@$(OUT)/reference --quiet
 	@$(OUT)/differential
+	@$(OUT)/history_text_test --quiet
+	@$(OUT)/history_text read <examples/histories/case_6.history | diff -u examples/case_6.txt -
+	@$(OUT)/history_text write <examples/case_6.txt | cmp - examples/histories/case_6.history
 	@$(OUT)/replay_reference --quiet
 	@$(OUT)/replay_test $(REPLAY) 20000 1
 

@@ -30,6 +30,17 @@ pub fn history(random: &mut Random) -> Vec<u8> {
     history
 }
 
+/// A name, then a mebibyte of noise in fields of the greatest length.
+pub fn noise_of_a_mebibyte(random: &mut Random) -> Vec<u8> {
+    let mut history = Vec::new();
+    field(&mut history, 1, NAMES[0].as_bytes());
+    for _ in 0..256 {
+        let piece: Vec<u8> = (0..4096).map(|_| random.byte()).collect();
+        field(&mut history, 2, &piece);
+    }
+    history
+}
+
 fn field(history: &mut Vec<u8>, tag: u8, value: &[u8]) {
     history.push(tag);
     history.extend((value.len() as u16).to_be_bytes());

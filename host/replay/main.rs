@@ -79,7 +79,10 @@ fn run(
     let mut seen = BTreeMap::new();
     for number in numbers {
         let mut random = Random::new(seed.wrapping_add(number.wrapping_mul(0x9e37)));
-        let history = histories::history(&mut random);
+        let history = match number {
+            0 => histories::noise_of_a_mebibyte(&mut random),
+            _ => histories::history(&mut random),
+        };
         let expected = program::output(&history);
         let printed = printed(program, &history).map_err(|error| error.to_string())?;
         if printed != expected.as_bytes() {

@@ -1,0 +1,38 @@
+//! Turns a readable text into a history for `replay`, or a history into a text.
+//!
+//!     history_text write <case.txt >case.history
+//!     history_text read <case.history >case.txt
+//!
+//! A line of the text is `name h1`, `bytes 7e 01 00`, `tick` or `tick 30`. Blank lines and what
+//! stands behind a # are passed over.
+
+mod text;
+
+use std::env;
+use std::io::{self, Read, Write};
+use std::process::ExitCode;
+
+fn main() -> ExitCode {
+    let words: Vec<String> = env::args().skip(1).collect();
+    let turn: fn(&[u8]) -> Result<Vec<u8>, String> = match words.as_slice() {
+        [word] if word == "write" => text::to_history,
+        [word] if word == "read" => text::from_history,
+        _ => {
+            eprintln!("usage: history_text write|read <input >output");
+            return ExitCode::from(2);
+        }
+    };
+    let mut input = Vec::new();
+    let turned = io::stdin()
+        .read_to_end(&mut input)
+        .map_err(|error| error.to_string())
+        .and_then(|_| turn(&input))
+        .and_then(|output| io::stdout().write_all(&output).map_err(|error| error.to_string()));
+    match turned {
+        Ok(()) => ExitCode::SUCCESS,
+        Err(fault) => {
+            eprintln!("history_text: {fault}");
+            ExitCode::FAILURE
+        }
+    }
+}

@@ -10,8 +10,8 @@ use rows::State;
 ghost use Rattle.history.specs.Appending.{Appends};
 ghost use Rattle.history.specs.Lines.{replyLine, stateText, rowLine, labelled, countsLine, refusedLine};
 
-// How many bytes the longest line has: that of a current row, with 27 bytes of name and a value of
-// 20, and that of six counts are shorter.
+// Room for every line that a display gives rise to. The longest is that of a current row, with 27
+// bytes of name, 20 of value and 2 of age: 60 bytes.
 pub const LINE_MAX: usize = 64;
 
 // A reply that the display sent.

@@ -1,5 +1,4 @@
 -- `history::fields::judge` meets its contract: its tests are those of the definition, one after the other.
-use mathlib.Core.Path.{_≡_, refl, sym, _∙_}
 use borrow.Author.Tests.{lt-ltb, le-ltb, eq-eqb, ne-eqb}
 use borrow.Author.Needs.{needs}
 use Rattle.history.proofs.fields.judge.Statement.{statement}

@@ -1,12 +1,12 @@
 -- `history::lines::refused` meets its contract: each turn appends a number, and the numbers behind it are left.
 use Rattle.history.proofs.LineLaws.{next-spaced, end-spaced}
 use borrow.Author.Needs.{needs}
-use mathlib.Core.Path.{_≡_, refl, sym, _∙_}
+use mathlib.Core.Path.{_≡_, refl, _∙_}
 use Prim.Native.Nat.{_-_, _≤_}
 use native.Mathlib.Omega.{arith}
 use lib.ListN.{length, drop}
 use Rattle.history.specs.Lines.{spaced}
-use Rattle.history.proofs.AppendingLaws.{Coming, coming-next, appends-both, appends-length}
+use Rattle.history.proofs.AppendingLaws.{Coming, appends-both, appends-length}
 use Rattle.history.proofs.lines.refused.Statement.{statement}
 use Rattle.history.proofs.lines.refused.Tie as tie
 

@@ -1,12 +1,12 @@
 -- `history::lines::reply` meets its contract: each turn appends a byte in hex, and the bytes behind it are left.
 use Rattle.history.proofs.LineLaws.{next-hexOf, end-hexOf}
 use borrow.Author.Needs.{needs}
-use mathlib.Core.Path.{_≡_, refl, sym, _∙_}
+use mathlib.Core.Path.{_≡_, refl, _∙_}
 use Prim.Native.Nat.{_-_, _≤_}
 use native.Mathlib.Omega.{arith}
 use lib.ListN.{length, drop}
 use Rattle.history.specs.Numbers.{hexOf}
-use Rattle.history.proofs.AppendingLaws.{Coming, coming-next, appends-both, appends-length}
+use Rattle.history.proofs.AppendingLaws.{Coming, appends-both, appends-length}
 use Rattle.history.proofs.lines.reply.Statement.{statement}
 use Rattle.history.proofs.lines.reply.Tie as tie
 

@@ -5,7 +5,7 @@ use display::Answer;
 use display::Display;
 use history::fields::Head;
 use libc::STDIN_FILENO;
-ghost use Rattle.replay.specs.Taking.{Takes};
+ghost use Rattle.display.specs.Taking.{Takes};
 
 // What became of the next field: there is none; the history is broken there; reading or writing
 // failed; a name was listed; or the display took bytes or a tick.

@@ -2,7 +2,7 @@
 use borrow.Author.Needs.{needs}
 use Prim.Native.Nat.{_+_, _-_, _≤_, _<_}
 use native.Mathlib.Omega.{arith}
-use Rattle.replay.proofs.TakingLaws.{taken-of-rest}
+use Rattle.display.proofs.TakingLaws.{taken-of-rest}
 use lib.ListN.{length}
 use Rattle.replay.proofs.read.feed.Statement.{statement}
 use Rattle.replay.proofs.read.feed.Tie as tie

@@ -1,5 +1,5 @@
 -- `replay::read::take` takes what its call takes.
-use Rattle.replay.proofs.TakingLaws.{takes}
+use Rattle.display.proofs.TakingLaws.{takes}
 use borrow.Author.Needs.{needs}
 use Rattle.replay.proofs.read.take.Statement.{statement}
 use Rattle.replay.proofs.read.take.Tie as tie

@@ -12,7 +12,7 @@ use lib.ListN.{length}
 use borrow.Author.Tests.{lt-ltb, le-ltb, ltb-true, not-true}
 use Rattle.slices.specs.Same.{sameBytes}
 use Rattle.rows.specs.Entries as shown
-use Rattle.rows.specs.Entries.{entries}
+use Rattle.rows.specs.Entries.{boardShowing}
 use Rattle.rows.specs.Names.{placeFrom, isSome, isIn}
 use Rattle.slices.proofs.SameLaws.{same-equal}
 use Rattle.board.specs.Reading as reading
@@ -40,7 +40,7 @@ pub record Alike (names : List (List ℕ)) (cs cs₁ : List Call) (end end₁ : 
   -- replies and packets, in order
   pub handed : handedOut (start names) cs ≡ handedOut (start names) cs₁
   pub counts : end .link .counts ≡ end₁ .link .counts
-  pub rows : entries (end .board) ≡ entries (end₁ .board)
+  pub board : end .board ≡ end₁ .board
 
 same-names : {found : Option (List (List ℕ))} {names names₁ : List (List ℕ)} → found ≡ some names → found ≡ some names₁ → names₁ ≡ names
 same-names a b = cc
@@ -62,9 +62,9 @@ same-history fields names listed d d₁ b b₁ cs cs₁ left left₁ end end₁ 
           rw (same-names listed (one .watch-list)) at (one .counts)
           ∙ ap (λ (m : Ledger). asCounts (m .counts)) ledgers
           ∙ sym (rw (same-names listed (two .watch-list)) at (two .counts));
-      rows =
+      board =
           rw (same-names listed (one .watch-list)) at (one .board)
-          ∙ ap (λ (m : Ledger). map asEntry (m .entries)) ledgers
+          ∙ ap (λ (m : Ledger). boardShowing (map asEntry (m .entries))) ledgers
           ∙ sym (rw (same-names listed (two .watch-list)) at (two .board));
     }
 
@@ -194,14 +194,14 @@ rows-followed gs (n ∷ names) = ap (λ (l : List shown.Entry). rowAfter gs n �
 -- ticks since, as 01 says.
 pub rows-show-last-update : (fields : List ℕ) (names : List (List ℕ)) → watchNames fields ≡ some names → (d : Display) → Begins fields d
     → (cs : List Call) (left : List Left) (end : Display) → Chain d cs left end
-    → entries (end .board) ≡ map (rowAfter (given (start names) cs)) names
+    → end .board ≡ boardShowing (map (rowAfter (given (start names) cs)) names)
 rows-show-last-update fields names listed d begins cs left end chain =
     let all = every-list fields d begins cs left end chain in
     let good = list-good fields names listed in
     let once = ap distinct (fresh-named names) ∙ good .once in
     rw (same-names listed (all .watch-list)) at (all .board)
-    ∙ ap (map asEntry) (after-followed (start names) cs once)
-    ∙ rows-followed (given (start names) cs) names
+    ∙ ap (λ (es : List Entry). boardShowing (map asEntry es)) (after-followed (start names) cs once)
+    ∙ ap boardShowing (rows-followed (given (start names) cs) names)
 
 -- A row is current exactly when that update is fewer than 30 ticks old, and then shows its value and those ticks as age.
 pub current-when : (value : ℤ) (ticks : ℕ) → ticks < 30 → rowOf (some (record { value = value; ticks = ticks })) ≡ current value ticks

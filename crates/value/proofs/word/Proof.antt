@@ -49,7 +49,8 @@ loop-again c =
     let loop = c .before .before .loop in
     let bytes = c .before .before .before .args .bytes .now in
     let byte = c .shared-slice-known .given (loop .i) in
-    (omega arith, word-grows (loop .sum) (getD bytes (loop .i) 0) (loop .i) (loop .inv .1) (omega (arith, byte)), word-step bytes (loop .sum) (loop .i) (omega arith) ∙ loop .inv .2)
+    let grows = word-grows (loop .sum) (getD bytes (loop .i) 0) (loop .i) (loop .inv .1) (omega (arith, byte)) in
+    (omega arith, omega (arith, grows), word-step bytes (loop .sum) (loop .i) (omega arith) ∙ loop .inv .2)
 
 returns : tie.Need-returns Inv-loop μ-loop
 returns c =

@@ -13,9 +13,9 @@ use Rattle.packet.specs.Items.{Item, itemsOf, countOf}
 use Rattle.packet.specs.Packet.{refused, isData, withItems, packetOf, judgedItems, packetItems}
 use Rattle.packet.specs.Answers.{readingOf, findIn, behindIn}
 use Rattle.packet.specs.Walk.{tallyOf, packetTally}
-use Rattle.packet.specs.declared.Found.{Found}
-use Rattle.packet.specs.declared.Reading.the-variants.{Packet, Refused}
-use Rattle.packet.specs.declared.Tally.the-variants.{Items, Broken}
+use Rattle.packet.specs.declared.items.Found.{Found}
+use Rattle.packet.specs.declared.reading.Reading.the-variants.{Packet, Refused}
+use Rattle.packet.specs.declared.items.Tally.the-variants.{Items, Broken}
 use Rattle.packet.proofs.WalkLaws.{both}
 
 -- a data packet has its first four bytes

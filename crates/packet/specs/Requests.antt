@@ -10,10 +10,10 @@ use Rattle.slices.specs.Put.{putAt}
 use Rattle.packet.specs.Items.{Item}
 use Rattle.packet.specs.Packet.{Packet, packetBytes}
 use Rattle.packet.specs.Names.{validName, validLocation}
-use Rattle.packet.specs.declared.Offset.{Offset}
-use Rattle.packet.specs.declared.Offset.the-variants.{Given, Omitted}
-use Rattle.packet.specs.declared.Written.{Written}
-use Rattle.packet.specs.declared.Written.the-variants.{Length, Refused}
+use Rattle.packet.specs.declared.requests.Offset.{Offset}
+use Rattle.packet.specs.declared.requests.Offset.the-variants.{Given, Omitted}
+use Rattle.packet.specs.declared.requests.Written.{Written}
+use Rattle.packet.specs.declared.requests.Written.the-variants.{Length, Refused}
 
 -- what a writer does: bytes at the start of the output, or a refusal
 pub data Output : Type 0 where

@@ -8,9 +8,9 @@ use lib.ListN.{length, getD, drop}
 use Rattle.packet.specs.Items.{Item, eofKind, countOf, itemsOf}
 use Rattle.packet.specs.Packet.{isData}
 use Rattle.packet.specs.Answers.{headIn, findIn, behindIn}
-use Rattle.packet.specs.declared.Found.{Found}
-use Rattle.packet.specs.declared.Tally.{Tally}
-use Rattle.packet.specs.declared.Tally.the-variants.{Items, Broken}
+use Rattle.packet.specs.declared.items.Found.{Found}
+use Rattle.packet.specs.declared.items.Tally.{Tally}
+use Rattle.packet.specs.declared.items.Tally.the-variants.{Items, Broken}
 
 -- a type byte, a length byte N, and N bytes behind them: none if the type is EOF
 unfoldable pub beginsWithItem : List ℕ → Bool

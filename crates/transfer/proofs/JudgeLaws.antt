@@ -12,7 +12,7 @@ use Rattle.slices.specs.Same.{sameBytes}
 use Rattle.packet.specs.Items.{Item}
 use Rattle.packet.specs.Packet.{Judged, packet, refused, judgedItems, packetItems}
 use Rattle.packet.specs.Answers as packet-answers
-use Rattle.packet.specs.declared.Reading.the-variants as packet-reading
+use Rattle.packet.specs.declared.reading.Reading.the-variants as packet-reading
 use Rattle.transfer.specs.Fragment.{binaryKind, locationKind, valueIn, formOf}
 use Rattle.transfer.specs.Transfer.{fragmentOpcode, refusedWith, locationOf, knownLength, passesLength, endsEarly, judgeEnd, judgeForm, verdictOf, advanced, outcomeBy, fileBy, verdictFor, Takes}
 use Rattle.transfer.specs.declared.Declared.{Declared}

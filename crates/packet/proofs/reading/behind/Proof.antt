@@ -1,0 +1,30 @@
+-- `packet::behind` meets its contract: it hands on what the reader tells of the packet's items.
+use mathlib.Core.Path.{sym, _∙_}
+use borrow.Author.Needs.{needs}
+use Rattle.packet.specs.Answers.{behindIn}
+use Rattle.packet.proofs.PacketLaws.{tally-told, tally-empty}
+use Rattle.packet.proofs.reading.behind.Statement.{statement}
+use Rattle.packet.proofs.reading.behind.Tie as tie
+
+tally-packet-requires : tie.Need-tally-packet-requires
+tally-packet-requires c κs = search needs
+
+enum-known-behind : tie.Need-enum-known-behind
+enum-known-behind c = search needs
+
+enum-told : tie.Need-enum-told
+enum-told c = search needs
+
+returns : tie.Need-returns
+unfolding behindIn
+returns c = rw (tally-empty (c .before .before .before .before .args .s .now) (c .before .before .before .before .args .kind) (sym (c .before .before .tally-packet .ensures) ∙ c .enum-told .given .1))
+
+returns-2 : tie.Need-returns-2
+returns-2 c =
+    let told = c .before .behind .given in
+    tally-told (c .before .before .before .before .before .args .s .now) (c .before .before .before .before .before .args .kind) (told .0 .0) (told .0 .1 .0) (told .0 .1 .1 .0) (told .0 .1 .1 .1 .0) (told .0 .1 .1 .1 .1 .0)
+    (sym (c .before .before .before .tally-packet .ensures) ∙ told .1)
+    .behind-told
+
+pub behind-spec : {M : Type 1} → statement M
+behind-spec = tie.close (tie.spec tally-packet-requires enum-known-behind enum-told returns returns-2)

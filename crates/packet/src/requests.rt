@@ -1,0 +1,121 @@
+// The four requests that the display writes.
+ghost use mathlib.Core.List.{_++_};
+ghost use mathlib.Core.Path.{_≡_};
+ghost use Prim.Native.Nat.{_+_, _<_};
+ghost use lib.ListN.{length};
+ghost use Rattle.packet.specs.Packet.{withHead};
+ghost use Rattle.packet.specs.Requests.{Writes, fitted, propertyGet, fileRequest, fetchedRequest, stopRequest};
+use crate::DATA;
+use crate::HEAD_LENGTH;
+use crate::LOCATION_KIND;
+use crate::NAME_KIND;
+use crate::OFFSET_KIND;
+use crate::names::valid_location;
+use crate::names::valid_name;
+use refusals::BAD_FRAGMENT;
+use refusals::BAD_NAME;
+use refusals::SHORT_OUTPUT;
+
+const GET_OPCODE: u8 = 0x02;
+
+const FILE_OPCODE: u8 = 0x0a;
+
+const FETCHED_OPCODE: u8 = 0x0d;
+
+const STOP_OPCODE: u8 = 0x0e;
+
+// What a request writer answers: how many bytes it wrote at the start of the output, or the number
+// of the refusal.
+pub enum Written {
+    Length(usize),
+    Refused(u8),
+}
+
+// Whether a file request names the offset to begin at.
+pub enum Offset {
+    Given(u32),
+    Omitted,
+}
+
+// Writes a data packet whose items are the three strings joined, if the output has room for it: the
+// shared end of the four requests.
+fn write_packet(
+    opcode: u8,
+    id: u16,
+    front: &[u8],
+    value: &[u8],
+    further: &[u8],
+    out: &mut [u8],
+) -> Written
+    requires { ⌜ length (now front) + length (now value) + length (now further) < 65536 ⌝ }
+    ensures { λ r. ⌜ Writes (fitted (length (now (out .entry))) (withHead opcode id (now (front .entry) ++ now (value .entry) ++ now (further .entry)))) (now (out .entry)) (now (out .exit)) r ⌝ }
+{
+    let first = HEAD_LENGTH + front.len();
+    let second = first + value.len();
+    let total = second + further.len();
+    if out.len() < total {
+        return Written::Refused(SHORT_OUTPUT);
+    }
+    let high = (id / 256) as u8;
+    let low = (id % 256) as u8;
+    let head = [DATA, opcode, high, low];
+    slices::put(out, 0, &head);
+    slices::put(out, HEAD_LENGTH, front);
+    slices::put(out, first, value);
+    slices::put(out, second, further);
+    Written::Length(total)
+}
+
+// Writes a property get: refusal 12 for a name that is not valid, then 7.
+pub fn property_get(id: u16, name: &[u8], out: &mut [u8]) -> Written
+    ensures { λ r. ⌜ Writes (propertyGet id (now (name .entry)) (length (now (out .entry)))) (now (out .entry)) (now (out .exit)) r ⌝ }
+{
+    let valid = valid_name(name);
+    if !valid {
+        return Written::Refused(BAD_NAME);
+    }
+    let size = name.len() as u8;
+    let front = [NAME_KIND, size];
+    write_packet(GET_OPCODE, id, &front, name, b"", out)
+}
+
+// Writes a file request: refusal 20 for a location that is not valid, then 7.
+pub fn file_request(id: u16, location: &[u8], offset: Offset, out: &mut [u8]) -> Written
+    ensures { λ r. ⌜ Writes (fileRequest id (now (location .entry)) offset (length (now (out .entry)))) (now (out .entry)) (now (out .exit)) r ⌝ }
+{
+    let valid = valid_location(location);
+    if !valid {
+        return Written::Refused(BAD_FRAGMENT);
+    }
+    let size = location.len() as u8;
+    let front = [LOCATION_KIND, size];
+    let Offset::Given(place) = offset else {
+        return write_packet(FILE_OPCODE, id, &front, location, b"", out);
+    };
+    let first = (place / 0x1000000) as u8;
+    let second = (place / 0x10000 % 256) as u8;
+    let third = (place / 0x100 % 256) as u8;
+    let fourth = (place % 256) as u8;
+    let further = [OFFSET_KIND, 4, first, second, third, fourth];
+    write_packet(FILE_OPCODE, id, &front, location, &further, out)
+}
+
+// Writes a fetched packet: refusal 20 for a location that is not valid, then 7.
+pub fn fetched(id: u16, location: &[u8], out: &mut [u8]) -> Written
+    ensures { λ r. ⌜ Writes (fetchedRequest id (now (location .entry)) (length (now (out .entry)))) (now (out .entry)) (now (out .exit)) r ⌝ }
+{
+    let valid = valid_location(location);
+    if !valid {
+        return Written::Refused(BAD_FRAGMENT);
+    }
+    let size = location.len() as u8;
+    let front = [LOCATION_KIND, size];
+    write_packet(FETCHED_OPCODE, id, &front, location, b"", out)
+}
+
+// Writes a stop packet, which has no items: refusal 7.
+pub fn stop(id: u16, out: &mut [u8]) -> Written
+    ensures { λ r. ⌜ Writes (stopRequest id (length (now (out .entry)))) (now (out .entry)) (now (out .exit)) r ⌝ }
+{
+    write_packet(STOP_OPCODE, id, b"", b"", b"", out)
+}

@@ -12,13 +12,13 @@ use Rattle.packet.specs.Items.{Item}
 use Rattle.packet.specs.Packet.{Judged, packet, refused, judgedItems}
 use Rattle.transfer.specs.Fragment.{binaryKind, locationKind, valueIn, formOf}
 use Rattle.transfer.specs.Transfer.{fragmentOpcode, locationOf, knownLength, passesLength, endsEarly, judgeEnd, judgeForm, verdictOf}
-use Rattle.transfer.specs.declared.Declared.{Declared}
-use Rattle.transfer.specs.declared.Declared.the-variants.{Known}
-use Rattle.transfer.specs.declared.Form.{Form}
-use Rattle.transfer.specs.declared.Form.the-variants.{Good, Bad}
-use Rattle.transfer.specs.declared.Verdict.{Verdict}
-use Rattle.transfer.specs.declared.Verdict.the-variants.{Accepted, Refused}
-use Rattle.transfer.specs.declared.Transfer.{Transfer}
+use Rattle.transfer.specs.declared.state.Declared.{Declared}
+use Rattle.transfer.specs.declared.state.Declared.the-variants.{Known}
+use Rattle.transfer.specs.declared.fragment.Form.{Form}
+use Rattle.transfer.specs.declared.fragment.Form.the-variants.{Good, Bad}
+use Rattle.transfer.specs.declared.judging.Verdict.{Verdict}
+use Rattle.transfer.specs.declared.judging.Verdict.the-variants.{Accepted, Refused}
+use Rattle.transfer.specs.declared.state.Transfer.{Transfer}
 
 -- an accepted fragment of the transfer: it stands at the next offset, ends within the buffer and the declared length, and is
 -- the last only where it reaches that length

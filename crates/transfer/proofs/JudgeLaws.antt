@@ -15,11 +15,11 @@ use Rattle.packet.specs.Answers as packet-answers
 use Rattle.packet.specs.declared.reading.Reading.the-variants as packet-reading
 use Rattle.transfer.specs.Fragment.{binaryKind, locationKind, valueIn, formOf}
 use Rattle.transfer.specs.Transfer.{fragmentOpcode, refusedWith, locationOf, knownLength, passesLength, endsEarly, judgeEnd, judgeForm, verdictOf, advanced, outcomeBy, fileBy, verdictFor, Takes}
-use Rattle.transfer.specs.declared.Declared.{Declared}
-use Rattle.transfer.specs.declared.Form.the-variants.{Good}
-use Rattle.transfer.specs.declared.Verdict.the-variants.{Accepted, Refused}
-use Rattle.transfer.specs.declared.Transfer.{Transfer}
-use Rattle.transfer.specs.declared.Answer.the-variants as answer
+use Rattle.transfer.specs.declared.state.Declared.{Declared}
+use Rattle.transfer.specs.declared.fragment.Form.the-variants.{Good}
+use Rattle.transfer.specs.declared.judging.Verdict.the-variants.{Accepted, Refused}
+use Rattle.transfer.specs.declared.state.Transfer.{Transfer}
+use Rattle.transfer.specs.declared.taking.Answer.the-variants as answer
 
 -- where a fragment ends
 module _ (room offset count : ℕ) (declared : Declared) (last : Bool) where

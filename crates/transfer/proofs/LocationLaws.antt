@@ -13,10 +13,10 @@ use denote.Laws.{Is}
 use denote.Struct.Declared as declared
 use denote.Struct.Laws as struct
 use mir.Val.{Val}
-use Rattle.transfer.specs.declared.Transfer.{Transfer}
+use Rattle.transfer.specs.declared.state.Transfer.{Transfer}
 use Rattle.transfer.specs.Transfer.{locationRoom}
-use Rattle.transfer.proofs.Transfer as transfer-type
-use Rattle.transfer.proofs.Transfer.Laws as transfer-laws
+use Rattle.transfer.proofs.state.Transfer as transfer-type
+use Rattle.transfer.proofs.state.Transfer.Laws as transfer-laws
 
 pub location-bytes : (transfer : Transfer) (vs : List Val) → Is (declared.row transfer-type.the-type) transfer vs → length (transfer .location) ≡ locationRoom
 location-bytes transfer vs p =

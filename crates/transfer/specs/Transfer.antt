@@ -12,15 +12,15 @@ use Rattle.packet.specs.Items.{Item}
 use Rattle.packet.specs.Names.{validLocation}
 use Rattle.packet.specs.Packet.{Judged, packet, refused, packetOf, packetItems}
 use Rattle.transfer.specs.Fragment.{binaryKind, locationKind, valueIn, formOf}
-use Rattle.transfer.specs.declared.Declared.{Declared}
-use Rattle.transfer.specs.declared.Declared.the-variants.{Unknown, Known}
-use Rattle.transfer.specs.declared.Form.{Form}
-use Rattle.transfer.specs.declared.Form.the-variants.{Good, Bad}
-use Rattle.transfer.specs.declared.Verdict.{Verdict}
-use Rattle.transfer.specs.declared.Verdict.the-variants as verdict
-use Rattle.transfer.specs.declared.Transfer.{Transfer}
-use Rattle.transfer.specs.declared.Answer.the-variants as answer
-use Rattle.transfer.specs.declared.Outcome.{Outcome}
+use Rattle.transfer.specs.declared.state.Declared.{Declared}
+use Rattle.transfer.specs.declared.state.Declared.the-variants.{Unknown, Known}
+use Rattle.transfer.specs.declared.fragment.Form.{Form}
+use Rattle.transfer.specs.declared.fragment.Form.the-variants.{Good, Bad}
+use Rattle.transfer.specs.declared.judging.Verdict.{Verdict}
+use Rattle.transfer.specs.declared.judging.Verdict.the-variants as verdict
+use Rattle.transfer.specs.declared.state.Transfer.{Transfer}
+use Rattle.transfer.specs.declared.taking.Answer.the-variants as answer
+use Rattle.transfer.specs.declared.taking.Outcome.{Outcome}
 
 -- 01, Items and packets: locations have up to 64 bytes
 abbrev pub locationRoom : ℕ

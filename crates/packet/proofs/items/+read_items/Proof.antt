@@ -1,4 +1,4 @@
--- `packet::read_items` meets its contract. The measure is the number of bytes left, which falls by two or more; each way through
+-- `packet::items::read_items` meets its contract. The measure is the number of bytes left, which falls by two or more; each way through
 -- the reader is a law of WalkLaws.
 use mathlib.Core.Path.{_≡_, sym, ap, subst⁻¹, _∙_}
 use mathlib.Core.Bool.{true}

@@ -1,4 +1,4 @@
--- `packet::begins_with_item` meets its contract: each return answers the tests that were made on the way to it.
+-- `packet::items::begins_with_item` meets its contract: each return answers the tests that were made on the way to it.
 use native.Mathlib.Omega.{arith}
 use borrow.Author.Needs.{needs}
 use borrow.Author.Tests.{le-leb, lt-leb, eq-eqb, ne-eqb}

@@ -1,4 +1,4 @@
--- `packet::with_item` meets its contract: each return is a case of the definition.
+-- `packet::items::with_item` meets its contract: each return is a case of the definition.
 use mathlib.Core.Path.{subst}
 use native.Mathlib.Omega.{arith}
 use borrow.Author.Needs.{needs}

@@ -1,4 +1,4 @@
--- `packet::between` meets its contract: the test that was made settles the first half.
+-- `packet::names::between` meets its contract: the test that was made settles the first half.
 use borrow.Author.Tests.{le-leb, lt-leb}
 use Rattle.packet.specs.Names.{between}
 use Rattle.packet.proofs.names.between.Statement.{statement}

@@ -1,4 +1,4 @@
--- `packet::is_letter` meets its contract: upper case settles it, else lower case does.
+-- `packet::names::is_letter` meets its contract: upper case settles it, else lower case does.
 use mathlib.Core.Path.{_≡_, sym, _∙_}
 use mathlib.Core.Bool.{true, false}
 use borrow.Author.Needs.{needs}

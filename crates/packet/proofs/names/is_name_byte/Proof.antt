@@ -1,4 +1,4 @@
--- `packet::is_name_byte` meets its contract: each test that passes settles it, and the last one settles the rest.
+-- `packet::names::is_name_byte` meets its contract: each test that passes settles it, and the last one settles the rest.
 use mathlib.Core.Path.{_≡_, sym, _∙_}
 use mathlib.Core.Bool.{true, false}
 use borrow.Author.Needs.{needs}

@@ -1,4 +1,4 @@
--- `packet::valid_location` meets its contract: the test that was made settles the first half.
+-- `packet::names::valid_location` meets its contract: the test that was made settles the first half.
 use borrow.Author.Tests.{le-leb, lt-leb}
 use Rattle.packet.specs.Names.{between, validLocation}
 use Rattle.packet.proofs.names.valid_location.Statement.{statement}

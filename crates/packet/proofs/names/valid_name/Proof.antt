@@ -1,4 +1,4 @@
--- `packet::valid_name` meets its contract. Once the length and the first letter are good the bytes settle it, and the invariant
+-- `packet::names::valid_name` meets its contract. Once the length and the first letter are good the bytes settle it, and the invariant
 -- says that those not yet passed settle it alike.
 use mathlib.Core.Path.{_≡_, refl, sym, _∙_}
 use mathlib.Core.Bool.{false}

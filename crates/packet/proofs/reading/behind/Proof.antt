@@ -1,4 +1,4 @@
--- `packet::behind` meets its contract: it hands on what the reader tells of the packet's items.
+-- `packet::reading::behind` meets its contract: it hands on what the reader tells of the packet's items.
 use mathlib.Core.Path.{sym, _∙_}
 use borrow.Author.Needs.{needs}
 use Rattle.packet.specs.Answers.{behindIn}

@@ -1,4 +1,4 @@
--- `packet::is_data` meets its contract: the length settles it, else the first byte does.
+-- `packet::reading::is_data` meets its contract: the length settles it, else the first byte does.
 use borrow.Author.Needs.{needs}
 use borrow.Author.Tests.{le-leb, lt-leb}
 use Rattle.packet.specs.Packet.{isData}

@@ -1,4 +1,4 @@
--- `packet::read_packet` meets its contract: each return is one of the three answers.
+-- `packet::reading::read_packet` meets its contract: each return is one of the three answers.
 use mathlib.Core.Path.{_≡_, sym, _∙_}
 use mathlib.Core.Bool.{true}
 use Prim.Native.Nat.{_≤_}

@@ -1,4 +1,4 @@
--- `packet::tally_packet` meets its contract: the reader is handed what stands behind the first four bytes.
+-- `packet::reading::tally_packet` meets its contract: the reader is handed what stands behind the first four bytes.
 use mathlib.Core.Path.{_≡_, sym, _∙_}
 use mathlib.Core.Bool.{true, false}
 use borrow.Author.Needs.{needs}

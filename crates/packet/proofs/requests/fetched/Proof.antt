@@ -1,4 +1,4 @@
--- `packet::fetched` meets its contract: a valid location goes out as the one item behind the first four bytes.
+-- `packet::requests::fetched` meets its contract: a valid location goes out as the one item behind the first four bytes.
 use mathlib.Core.Path.{_≡_, sym, _∙_}
 use mathlib.Core.Bool.{true, false}
 use Prim.Native.Nat.{_≤_}

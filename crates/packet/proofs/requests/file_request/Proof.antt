@@ -1,4 +1,4 @@
--- `packet::file_request` meets its contract: a valid location goes out as the first item, and behind it the offset if one is given.
+-- `packet::requests::file_request` meets its contract: a valid location goes out as the first item, and behind it the offset if one is given.
 use mathlib.Core.Path.{_≡_, sym, _∙_}
 use mathlib.Core.Bool.{true, false}
 use Prim.Native.Nat.{_≤_}

@@ -1,4 +1,4 @@
--- `packet::stop` meets its contract: the first four bytes alone are the packet.
+-- `packet::requests::stop` meets its contract: the first four bytes alone are the packet.
 use borrow.Author.Needs.{needs}
 use Rattle.packet.specs.Items.{itemsBytes}
 use Rattle.packet.specs.Packet.{packetBytes}

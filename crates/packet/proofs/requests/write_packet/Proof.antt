@@ -1,4 +1,4 @@
--- `packet::write_packet` meets its contract: the four strings are put one behind the other.
+-- `packet::requests::write_packet` meets its contract: the four strings are put one behind the other.
 use borrow.Author.Needs.{needs}
 use Rattle.packet.proofs.WriteLaws.{packet-short, packet-put}
 use Rattle.packet.proofs.requests.write_packet.Statement.{statement}

@@ -1,8 +1,7 @@
 // A transfer of one file: what it is at the start, which file it is of, and what a fragment makes of it.
 ghost use mathlib.Core.Path.{_≡_};
-ghost use Prim.Native.Nat.{min};
 ghost use Rattle.slices.specs.Same.{sameBytes};
-ghost use Rattle.transfer.specs.Transfer.{locationRoom, freshTransfer, locationOf, advanced};
+ghost use Rattle.transfer.specs.Transfer.{freshTransfer, locationOf, advanced};
 
 // How many bytes a transfer has for its location.
 pub const LOCATION_ROOM: usize = 64;
@@ -56,16 +55,6 @@ pub(crate) fn is_of(transfer: Transfer, location: &[u8]) -> bool
     ensures { λ r. ⌜ r ≡ sameBytes (now (location .entry)) (locationOf transfer) ⌝ }
 {
     let bytes = transfer.location;
-    let length = location_length(transfer);
-    slices::same(location, &bytes[..length])
-}
-
-fn location_length(transfer: Transfer) -> usize
-    ensures { λ r. ⌜ r ≡ min (transfer .length) locationRoom ⌝ }
-{
-    if transfer.length < LOCATION_ROOM {
-        transfer.length
-    } else {
-        LOCATION_ROOM
-    }
+    let own = slices::first(&bytes, transfer.length);
+    slices::same(location, own)
 }

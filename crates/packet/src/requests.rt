@@ -4,7 +4,7 @@ ghost use mathlib.Core.Path.{_≡_};
 ghost use Prim.Native.Nat.{_+_, _<_};
 ghost use lib.ListN.{length};
 ghost use Rattle.packet.specs.Packet.{withHead};
-ghost use Rattle.packet.specs.Requests.{Writes, fitted, propertyGet, fileRequest, fetchedRequest, stopRequest};
+ghost use Rattle.packet.specs.Requests.{Writes, fitted, requestBytes, locatedRequest, propertyGet, fileRequest, fetchedRequest, stopRequest};
 use crate::DATA;
 use crate::HEAD_LENGTH;
 use crate::LOCATION_KIND;
@@ -66,6 +66,35 @@ fn write_packet(
     Written::Length(total)
 }
 
+// Writes a request whose first item has the kind and the value; `further` are its other items.
+fn write_request(
+    opcode: u8,
+    id: u16,
+    kind: u8,
+    value: &[u8],
+    further: &[u8],
+    out: &mut [u8],
+) -> Written
+    requires { ⌜ length (now value) + length (now further) < 256 ⌝ }
+    ensures { λ r. ⌜ Writes (fitted (length (now (out .entry))) (requestBytes opcode id kind (now (value .entry)) (now (further .entry)))) (now (out .entry)) (now (out .exit)) r ⌝ }
+{
+    let size = value.len() as u8;
+    let front = [kind, size];
+    write_packet(opcode, id, &front, value, further, out)
+}
+
+// Writes a request for the file at a location: refusal 20 for one that is not valid, then 7.
+fn write_located(opcode: u8, id: u16, location: &[u8], further: &[u8], out: &mut [u8]) -> Written
+    requires { ⌜ length (now further) < 128 ⌝ }
+    ensures { λ r. ⌜ Writes (locatedRequest opcode id (now (location .entry)) (now (further .entry)) (length (now (out .entry)))) (now (out .entry)) (now (out .exit)) r ⌝ }
+{
+    let valid = valid_location(location);
+    if !valid {
+        return Written::Refused(BAD_FRAGMENT);
+    }
+    write_request(opcode, id, LOCATION_KIND, location, further, out)
+}
+
 // Writes a property get: refusal 12 for a name that is not valid, then 7.
 pub fn property_get(id: u16, name: &[u8], out: &mut [u8]) -> Written
     ensures { λ r. ⌜ Writes (propertyGet id (now (name .entry)) (length (now (out .entry)))) (now (out .entry)) (now (out .exit)) r ⌝ }
@@ -74,43 +103,29 @@ pub fn property_get(id: u16, name: &[u8], out: &mut [u8]) -> Written
     if !valid {
         return Written::Refused(BAD_NAME);
     }
-    let size = name.len() as u8;
-    let front = [NAME_KIND, size];
-    write_packet(GET_OPCODE, id, &front, name, b"", out)
+    write_request(GET_OPCODE, id, NAME_KIND, name, b"", out)
 }
 
 // Writes a file request: refusal 20 for a location that is not valid, then 7.
 pub fn file_request(id: u16, location: &[u8], offset: Offset, out: &mut [u8]) -> Written
     ensures { λ r. ⌜ Writes (fileRequest id (now (location .entry)) offset (length (now (out .entry)))) (now (out .entry)) (now (out .exit)) r ⌝ }
 {
-    let valid = valid_location(location);
-    if !valid {
-        return Written::Refused(BAD_FRAGMENT);
-    }
-    let size = location.len() as u8;
-    let front = [LOCATION_KIND, size];
     let Offset::Given(place) = offset else {
-        return write_packet(FILE_OPCODE, id, &front, location, b"", out);
+        return write_located(FILE_OPCODE, id, location, b"", out);
     };
     let first = (place / 0x1000000) as u8;
     let second = (place / 0x10000 % 256) as u8;
     let third = (place / 0x100 % 256) as u8;
     let fourth = (place % 256) as u8;
     let further = [OFFSET_KIND, 4, first, second, third, fourth];
-    write_packet(FILE_OPCODE, id, &front, location, &further, out)
+    write_located(FILE_OPCODE, id, location, &further, out)
 }
 
 // Writes a fetched packet: refusal 20 for a location that is not valid, then 7.
 pub fn fetched(id: u16, location: &[u8], out: &mut [u8]) -> Written
     ensures { λ r. ⌜ Writes (fetchedRequest id (now (location .entry)) (length (now (out .entry)))) (now (out .entry)) (now (out .exit)) r ⌝ }
 {
-    let valid = valid_location(location);
-    if !valid {
-        return Written::Refused(BAD_FRAGMENT);
-    }
-    let size = location.len() as u8;
-    let front = [LOCATION_KIND, size];
-    write_packet(FETCHED_OPCODE, id, &front, location, b"", out)
+    write_located(FETCHED_OPCODE, id, location, b"", out)
 }
 
 // Writes a stop packet, which has no items: refusal 7.

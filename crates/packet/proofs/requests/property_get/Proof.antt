@@ -1,7 +1,6 @@
 -- `packet::requests::property_get` meets its contract: a valid name goes out as the one item behind the first four bytes.
 use mathlib.Core.Path.{_≡_, sym, _∙_}
 use mathlib.Core.Bool.{true, false}
-use Prim.Native.Nat.{_≤_}
 use native.Mathlib.Omega.{arith}
 use borrow.Author.Needs.{needs}
 use borrow.Author.Tests.{not-true, not-false}
@@ -27,27 +26,21 @@ returns c =
 good : (c : tie.Else1) → validName (c .before .before .before .before .args .name .now) ≡ true
 good c = sym (c .before .valid-name .ensures) ∙ not-false _ (c .if1 .left)
 
-short : (c : tie.Else1) → length (c .before .before .before .before .args .name .now) ≤ 27
-short c = name-short (c .before .before .before .before .args .name .now) (good c)
+slice-aggregate-write-request : tie.Need-slice-aggregate-write-request
+slice-aggregate-write-request c = search needs
 
-cast-size : tie.Need-cast-size
-cast-size c = let h = short c in omega arith
-
-slice-aggregate-write-packet : tie.Need-slice-aggregate-write-packet
-slice-aggregate-write-packet c = search needs
-
-slice-aggregate-write-packet-2 : tie.Need-slice-aggregate-write-packet-2
-slice-aggregate-write-packet-2 c = search needs
-
-write-packet-requires : tie.Need-write-packet-requires
-write-packet-requires c κs = let h = short (c .before .before .before) in omega arith
+write-request-requires : tie.Need-write-request-requires
+write-request-requires c κs =
+    let test = c .before .before in
+    let short = name-short (test .before .before .before .before .args .name .now) (good test) in
+    omega arith
 
 same-length : tie.Need-same-length
 same-length c = search needs
 
 returns-2 : tie.Need-returns-2
 unfolding propertyGet packetBytes itemsBytes itemBytes getPacket nameItem
-returns-2 c = rw (good (c .before .before .before .before .before .before)) (c .before .before .write-packet .ensures)
+returns-2 c = rw (good (c .before .before .before .before .before)) (c .before .before .write-request .ensures)
 
 pub property-get-spec : {M : Type 1} → statement M
 property-get-spec =
@@ -55,9 +48,7 @@ property-get-spec =
     (tie.spec
     valid-name-requires
     returns
-    cast-size
-    slice-aggregate-write-packet
-    slice-aggregate-write-packet-2
-    write-packet-requires
+    slice-aggregate-write-request
+    write-request-requires
     same-length
     returns-2)

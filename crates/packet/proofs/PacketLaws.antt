@@ -31,13 +31,13 @@ pub record Told (kind : ℕ) (items : List Item) (all count : ℕ) (first behind
   pub behind-told : behind ≡ behindIn 4 kind items
 
 module _ (opcode id kind : ℕ) where
-  told-by : (t : Bool) (read : Option (List Item)) (all count : ℕ) (first behind head : Found) →
+  told-by : (t : Bool) (read : Option (List Item)) {all count : ℕ} {first behind head : Found} →
       cond t (tallyOf 4 kind read) Broken ≡ Items all count first behind head
       → Told kind (judgedItems (cond t (withItems opcode id read) (refused noDataPacket))) all count first behind
   unfolding tallyOf withItems judgedItems
-  told-by false read all count first behind head e = let z : _≡_ {A = ℕ} 0 1 = cc in absurd (omega arith)
-  told-by true none all count first behind head e = let z : _≡_ {A = ℕ} 0 1 = cc in absurd (omega arith)
-  told-by true (some items) all count first behind head e = record { all-told = cc; count-told = cc; first-told = cc; behind-told = cc }
+  told-by false read e = let z : _≡_ {A = ℕ} 0 1 = cc in absurd (omega arith)
+  told-by true none e = let z : _≡_ {A = ℕ} 0 1 = cc in absurd (omega arith)
+  told-by true (some items) e = record { all-told = cc; count-told = cc; first-told = cc; behind-told = cc }
 
   empty-by : (t : Bool) (read : Option (List Item)) → cond t (tallyOf 4 kind read) Broken ≡ Broken → judgedItems (cond t (withItems opcode id read) (refused noDataPacket)) ≡ []
   unfolding tallyOf withItems judgedItems
@@ -45,10 +45,10 @@ module _ (opcode id kind : ℕ) where
   empty-by true none e = refl
   empty-by true (some items) e = let z : _≡_ {A = ℕ} 0 1 = cc in absurd (omega arith)
 
-  read-by : (read : Option (List Item)) (all count : ℕ) (first behind head : Found) → tallyOf 4 kind read ≡ Items all count first behind head → readingOf (withItems opcode id read) ≡ Packet opcode id
+  read-by : (read : Option (List Item)) {all count : ℕ} {first behind head : Found} → tallyOf 4 kind read ≡ Items all count first behind head → readingOf (withItems opcode id read) ≡ Packet opcode id
   unfolding tallyOf withItems readingOf
-  read-by none all count first behind head e = let z : _≡_ {A = ℕ} 0 1 = cc in absurd (omega arith)
-  read-by (some items) all count first behind head e = refl
+  read-by none e = let z : _≡_ {A = ℕ} 0 1 = cc in absurd (omega arith)
+  read-by (some items) e = refl
 
   refused-by : (read : Option (List Item)) → tallyOf 4 kind read ≡ Broken → readingOf (withItems opcode id read) ≡ Refused 10
   unfolding tallyOf withItems readingOf
@@ -56,10 +56,9 @@ module _ (opcode id kind : ℕ) where
   refused-by (some items) e = let z : _≡_ {A = ℕ} 0 1 = cc in absurd (omega arith)
 
 module _ (bytes : List ℕ) (kind : ℕ) where
-  pub tally-told : (all count : ℕ) (first behind head : Found) → packetTally kind bytes ≡ Items all count first behind head → Told kind (packetItems bytes) all count first behind
+  pub tally-told : {all count : ℕ} {first behind head : Found} → packetTally kind bytes ≡ Items all count first behind head → Told kind (packetItems bytes) all count first behind
   unfolding packetTally packetItems packetOf
-  tally-told all count first behind head e =
-      told-by (getD bytes 1 0) (getD bytes 2 0 * 256 + getD bytes 3 0) kind (isData bytes) (itemsOf (drop 4 bytes)) all count first behind head e
+  tally-told e = told-by (getD bytes 1 0) (getD bytes 2 0 * 256 + getD bytes 3 0) kind (isData bytes) (itemsOf (drop 4 bytes)) e
 
   pub tally-empty : packetTally kind bytes ≡ Broken → packetItems bytes ≡ []
   unfolding packetTally packetItems packetOf
@@ -76,8 +75,8 @@ module _ (bytes : List ℕ) (kind : ℕ) where
       let t : tallyOf 4 kind (itemsOf (drop 4 bytes)) ≡ Broken = rw h at e in
       rw h (sym (refused-by (getD bytes 1 0) (getD bytes 2 0 * 256 + getD bytes 3 0) kind (itemsOf (drop 4 bytes)) t))
 
-  pub reading-packet : (all count : ℕ) (first behind head : Found) → isData bytes ≡ true → packetTally kind bytes ≡ Items all count first behind head → Packet (getD bytes 1 0) (getD bytes 2 0 * 256 + getD bytes 3 0) ≡ readingOf (packetOf bytes)
+  pub reading-packet : {all count : ℕ} {first behind head : Found} → isData bytes ≡ true → packetTally kind bytes ≡ Items all count first behind head → Packet (getD bytes 1 0) (getD bytes 2 0 * 256 + getD bytes 3 0) ≡ readingOf (packetOf bytes)
   unfolding packetOf packetTally
-  reading-packet all count first behind head h e =
-      let t : tallyOf 4 kind (itemsOf (drop 4 bytes)) ≡ Items all count first behind head = rw h at e in
-      rw h (sym (read-by (getD bytes 1 0) (getD bytes 2 0 * 256 + getD bytes 3 0) kind (itemsOf (drop 4 bytes)) all count first behind head t))
+  reading-packet h e =
+      let t = rw h at e in
+      rw h (sym (read-by (getD bytes 1 0) (getD bytes 2 0 * 256 + getD bytes 3 0) kind (itemsOf (drop 4 bytes)) t))

@@ -15,14 +15,14 @@ enum-told : tie.Need-enum-told
 enum-told c = search needs
 
 returns : tie.Need-returns
-returns c = rw (tally-empty (c .before .before .before .before .args .s .now) 0x14 (sym (c .before .before .tally-packet .ensures) ∙ c .enum-told .given .1))
+returns c =
+    let args = c .before .before .before .before .args in
+    rw (tally-empty (args .s .now) 0x14 (sym (c .before .before .tally-packet .ensures) ∙ c .enum-told .given .1))
 
 returns-2 : tie.Need-returns-2
 returns-2 c =
-    let told = c .before .all .given in
-    tally-told (c .before .before .before .before .before .args .s .now) 0x14 (told .0 .0) (told .0 .1 .0) (told .0 .1 .1 .0) (told .0 .1 .1 .1 .0) (told .0 .1 .1 .1 .1 .0)
-    (sym (c .before .before .before .tally-packet .ensures) ∙ told .1)
-    .all-told
+    let args = c .before .before .before .before .before .args in
+    tally-told (args .s .now) 0x14 (sym (c .before .before .before .tally-packet .ensures) ∙ c .before .all .given .1) .all-told
 
 pub count-all-spec : {M : Type 1} → statement M
 count-all-spec = tie.close (tie.spec tally-packet-requires enum-known-all enum-told returns returns-2)

@@ -17,14 +17,14 @@ enum-told c = search needs
 
 returns : tie.Need-returns
 unfolding findIn
-returns c = rw (tally-empty (c .before .before .before .before .args .s .now) (c .before .before .before .before .args .kind) (sym (c .before .before .tally-packet .ensures) ∙ c .enum-told .given .1))
+returns c =
+    let args = c .before .before .before .before .args in
+    rw (tally-empty (args .s .now) (args .kind) (sym (c .before .before .tally-packet .ensures) ∙ c .enum-told .given .1))
 
 returns-2 : tie.Need-returns-2
 returns-2 c =
-    let told = c .before .first .given in
-    tally-told (c .before .before .before .before .before .args .s .now) (c .before .before .before .before .before .args .kind) (told .0 .0) (told .0 .1 .0) (told .0 .1 .1 .0) (told .0 .1 .1 .1 .0) (told .0 .1 .1 .1 .1 .0)
-    (sym (c .before .before .before .tally-packet .ensures) ∙ told .1)
-    .first-told
+    let args = c .before .before .before .before .before .args in
+    tally-told (args .s .now) (args .kind) (sym (c .before .before .before .tally-packet .ensures) ∙ c .before .first .given .1) .first-told
 
 pub find-spec : {M : Type 1} → statement M
 find-spec = tie.close (tie.spec tally-packet-requires enum-known-first enum-told returns returns-2)

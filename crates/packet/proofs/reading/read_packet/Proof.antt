@@ -60,7 +60,7 @@ add-id c = omega (arith, c .shared-slice-known4 .given 2, c .shared-slice-known4
 returns-3 : tie.Need-returns-3
 returns-3 c =
     let told = c .before .before .before .enum-told .given in
-    reading-packet (c .before .before .before .before .before .before .before .before .before .args .s .now) 0x14 (told .0 .0) (told .0 .1 .0) (told .0 .1 .1 .0) (told .0 .1 .1 .1 .0) (told .0 .1 .1 .1 .1 .0) (is-data (c .before .before .before .before .before .before))
+    reading-packet (c .before .before .before .before .before .before .before .before .before .args .s .now) 0x14 (is-data (c .before .before .before .before .before .before))
     (sym (c .before .before .before .before .before .tally-packet .ensures) ∙ told .1)
 
 pub read-packet-spec : {M : Type 1} → statement M

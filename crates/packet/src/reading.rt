@@ -4,7 +4,7 @@ ghost use lib.ListN.{length};
 ghost use Rattle.packet.specs.Items.{countOf};
 ghost use Rattle.packet.specs.Packet.{isData, packetOf, packetItems};
 ghost use Rattle.packet.specs.Answers.{findIn, behindIn, readingOf};
-ghost use Rattle.packet.specs.Walk.{packetTally};
+ghost use Rattle.packet.specs.Walk.{packetTally, surveyOf};
 use crate::DATA;
 use crate::EOF_KIND;
 use crate::HEAD_LENGTH;
@@ -18,6 +18,14 @@ use refusals::NO_DATA_PACKET;
 pub enum Reading {
     Packet { opcode: u8, id: u16 },
     Refused(u8),
+}
+
+// How many items a packet has, how many of one kind, the first of these and the item right behind it.
+struct Survey {
+    all: usize,
+    count: usize,
+    first: Found,
+    behind: Found,
 }
 
 // Whether `s` has a data packet's first four bytes.
@@ -61,42 +69,57 @@ pub fn read_packet(s: &[u8]) -> Reading
     Reading::Packet { opcode, id }
 }
 
+// What a packet's items are, and what they are to the kind; a refused packet has none.
+fn look_over(s: &[u8], kind: u8) -> Survey
+    ensures { λ r. ⌜ r ≡ surveyOf kind (packetItems (now (s .entry))) ⌝ }
+{
+    let Tally::Items {
+        all,
+        count,
+        first,
+        behind,
+        ..
+    } = tally_packet(s, kind)
+    else {
+        return Survey {
+            all: 0,
+            count: 0,
+            first: Found::Nothing,
+            behind: Found::Nothing,
+        };
+    };
+    Survey {
+        all,
+        count,
+        first,
+        behind,
+    }
+}
+
 // How many items a packet has; a refused one has none.
 pub fn count_all(s: &[u8]) -> usize
     ensures { λ r. ⌜ r ≡ length (packetItems (now (s .entry))) ⌝ }
 {
-    let Tally::Items { all, .. } = tally_packet(s, EOF_KIND) else {
-        return 0;
-    };
-    all
+    look_over(s, EOF_KIND).all
 }
 
 // How many items of the kind a packet has; a refused one has none.
 pub fn count(s: &[u8], kind: u8) -> usize
     ensures { λ r. ⌜ r ≡ countOf kind (packetItems (now (s .entry))) ⌝ }
 {
-    let Tally::Items { count, .. } = tally_packet(s, kind) else {
-        return 0;
-    };
-    count
+    look_over(s, kind).count
 }
 
 // The first item of the kind in a packet; in a refused one nothing is found.
 pub fn find(s: &[u8], kind: u8) -> Found
     ensures { λ r. ⌜ r ≡ findIn 4 kind (packetItems (now (s .entry))) ⌝ }
 {
-    let Tally::Items { first, .. } = tally_packet(s, kind) else {
-        return Found::Nothing;
-    };
-    first
+    look_over(s, kind).first
 }
 
 // The item right behind the first item of the kind in a packet; in a refused one nothing is found.
 pub fn behind(s: &[u8], kind: u8) -> Found
     ensures { λ r. ⌜ r ≡ behindIn 4 kind (packetItems (now (s .entry))) ⌝ }
 {
-    let Tally::Items { behind, .. } = tally_packet(s, kind) else {
-        return Found::Nothing;
-    };
-    behind
+    look_over(s, kind).behind
 }

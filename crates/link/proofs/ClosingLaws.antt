@@ -99,17 +99,3 @@ module _ (c : List ℕ) (previous : Last) (before : Counts) where
         → frameOutcome c previous before ≡ refusedFrame unknownType previous before
     unfolding frameOutcome
     frame-unknown other neither = rw (e, ne-eqb kind dataType other, ne-eqb kind acknowledgementType neither)
-
--- a length past the end is the end
-pub take-within : (xs : List ℕ) (n m : ℕ) → m ≡ min n (length xs) → take m xs ≡ take n xs
-take-within xs n m e = cases (leb (length xs) n) refl
-  where
-    cases : (t : Bool) → leb (length xs) n ≡ t → take m xs ≡ take n xs
-    cases true f =
-        let past : length xs ≤ n = leb-true _ _ f in
-        let all : length xs ≤ m = omega arith in
-        take-all m xs all ∙ sym (take-all n xs past)
-    cases false f =
-        let inside : n < length xs = leb-false _ _ f in
-        let same : m ≡ n = omega arith in
-        rw same

@@ -33,7 +33,7 @@ use Rattle.link.specs.declared.receiver.Last.{Last}
 use Rattle.link.specs.declared.receiver.Link.{Link}
 use Rattle.link.proofs.ReceivingLaws.{short-reply, short-packet, room-for-both}
 use Rattle.link.proofs.WalkLaws.{walk-length}
-use Rattle.refusals.specs.Numbers.{unknownType, loadedAcknowledgement}
+use Rattle.refusals.specs.Numbers.{unknownType}
 
 -- the length that is answered is that of the packet, and it is within the limit
 pub record Handed (packet : List ℕ) (n limit : ℕ) : Type 0 where

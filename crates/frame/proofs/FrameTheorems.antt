@@ -3,20 +3,20 @@
 use mathlib.Core.Path.{_≡_, refl, sym, ap, _∙_}
 use mathlib.Core.Bool.{Bool, true, false, cond}
 use mathlib.Core.List.{List, [], _∷_, _++_, append-assoc}
-use Prim.Native.Nat.{ℕ, suc, _+_, _-_, _≤_, _<_}
+use Prim.Native.Nat.{ℕ, suc, _+_, _-_, _≤_}
 use native.Mathlib.Omega.{arith}
 use lib.Dec.{eqb, ltb}
-use lib.ListN.{length, take, drop, getD, length-append}
+use lib.ListN.{length, length-append}
 use lib.Seq.{take-at}
-use borrow.Author.Tests.{eqb-true, eqb-false, eq-eqb, ne-eqb, le-leb, ltb-true, ltb-false}
+use borrow.Author.Tests.{eq-eqb, le-leb, ltb-false}
 use Rattle.refusals.specs.Numbers.{badFraming, shortOutput, longPayload}
 use Rattle.crc.specs.Crc.{linkStart, crcOf, checkBytes}
 use Rattle.crc.proofs.CrcLaws.{crc-checked}
 use Rattle.frame.specs.Stuffing as stuffing
 use Rattle.frame.specs.Stuffing.{flagByte, contentMax, stuffByte, stuff, escapes, unstuff}
 use Rattle.frame.specs.Content as content
-use Rattle.frame.specs.Content.{payloadMax, contentOf, frame, payloadOf, judged}
-use Rattle.frame.specs.Writing.{framed, frameOf, Written, written, refused, writeContent, writeFrame}
+use Rattle.frame.specs.Content.{payloadMax, contentOf, frame, judged}
+use Rattle.frame.specs.Writing.{framed, frameOf, written, refused, writeContent, writeFrame}
 use Rattle.frame.specs.Reading.{firstFlag, flaggedBytes, between, judgedContent, readRun, readFrame}
 use Rattle.frame.specs.Answers.{readAnswer}
 use Rattle.frame.proofs.BoundLaws.{unstuff-bounded}

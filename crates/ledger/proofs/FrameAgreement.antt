@@ -2,12 +2,12 @@
 -- board reads in it.
 use mathlib.Core.Path.{_≡_, refl, sym, ap, _∙_, subst⁻¹}
 use mathlib.Core.Bool.{Bool, true, false, cond}
-use mathlib.Core.List.{List, [], _∷_, _++_, map}
+use mathlib.Core.List.{List, [], _∷_, map}
 use mathlib.Core.Option.{Option, some, none}
 use Prim.Native.Nat.{ℕ, _-_}
 use lib.Dec.{eqb}
 use lib.IntN.{ℤ}
-use lib.ListN.{length, replicate}
+use lib.ListN.{length}
 use Rattle.frame.specs.Content as content
 use Rattle.rows.specs.Entries as shown
 use Rattle.rows.specs.Entries.{entries, updateEntries}
@@ -16,7 +16,7 @@ use Rattle.rows.specs.Rows.{rowCount, rowNames, watched, updateBoard, boardOf}
 use Rattle.rows.specs.declared.Board.{Board}
 use Rattle.rows.proofs.EntryLaws.{entry-names}
 use Rattle.board.specs.Reading as reading
-use Rattle.board.specs.Reading.{Verdict, readingOf, readBoard, entriesAfter}
+use Rattle.board.specs.Reading.{Verdict, readingOf, entriesAfter}
 use Rattle.board.specs.declared.reading.Reading as declared-reading
 use Rattle.board.specs.declared.reading.Answer.the-variants as board-says
 use Rattle.board.proofs.WatchLaws.{Fits}

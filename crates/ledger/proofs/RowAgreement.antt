@@ -1,5 +1,5 @@
 -- The board's rows show what the ledger holds of each name, after an update and after a tick as before; the names never change.
-use mathlib.Core.Path.{_≡_, refl, sym, ap, ap₂, _∙_}
+use mathlib.Core.Path.{_≡_, refl, ap, ap₂}
 use mathlib.Core.Bool.{Bool, true, false, cond}
 use mathlib.Core.List.{List, [], _∷_, _++_, map}
 use mathlib.Core.Option.{Option, some, none}
@@ -13,7 +13,7 @@ use borrow.Author.Tests.{le-ltb, ltb-false}
 use Rattle.slices.specs.Same.{sameBytes}
 use Rattle.rows.specs.Entries as shown
 use Rattle.rows.specs.Entries.{tickEntry, updateEntries}
-use Rattle.rows.specs.Names.{placeFrom, placeOf}
+use Rattle.rows.specs.Names.{placeFrom}
 use Rattle.rows.specs.Rows.{rowCount, rowName, rowNames, tickState, tickRow, tickBoard, updateRow, updateBoard, freshRow, changeAt, boardOf}
 use Rattle.rows.specs.declared.Board.{Board}
 use Rattle.rows.specs.declared.Row as row

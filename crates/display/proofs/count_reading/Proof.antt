@@ -2,9 +2,6 @@
 use borrow.Author.Needs.{needs}
 use Rattle.display.proofs.count_reading.Statement.{statement}
 use Rattle.display.proofs.count_reading.Tie as tie
-use Rattle.display.proofs.count_reading.Reads as reads
-use Rattle.display.proofs.count_reading.Lts as lts
-use Rattle.link.proofs.receiver.count_unread.Reads as count-unread-reads
 
 -- src/lib.rt:103:38
 enum-told : tie.Need-enum-told

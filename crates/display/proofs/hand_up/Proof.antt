@@ -2,9 +2,6 @@
 use borrow.Author.Needs.{needs}
 use Rattle.display.proofs.hand_up.Statement.{statement}
 use Rattle.display.proofs.hand_up.Tie as tie
-use Rattle.display.proofs.hand_up.Reads as reads
-use Rattle.display.proofs.hand_up.Lts as lts
-use Rattle.display.proofs.count_reading.Reads as count-reading-reads
 
 -- src/lib.rt:86:9
 count-reading-requires : tie.Need-count-reading-requires

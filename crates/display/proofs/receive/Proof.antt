@@ -1,14 +1,11 @@
 -- `display::receive` meets its contract: each answer of the link is passed on, and a new packet is what the board reads, since the
 -- link put it whole at the start of the packet buffer.
 use mathlib.Core.Path.{_≡_, refl, sym, ap, _∙_}
-use mathlib.Core.List.{List}
-use Prim.Native.Nat.{ℕ, _≤_}
+use Prim.Native.Nat.{_≤_}
 use native.Mathlib.Omega.{arith}
-use lib.ListN.{length, take}
+use lib.ListN.{length}
 use lib.Seq.{length-take-le}
-use Rattle.slices.proofs.PutLaws.{put-first}
 use Rattle.link.specs.Receiving.{Call, receiveOf}
-use Rattle.link.specs.declared.receiver.Answer as link-answer
 use Rattle.link.specs.declared.receiver.Received as link-received
 use Rattle.display.specs.Display.{receivePiece}
 use Rattle.display.proofs.LengthLaws.{whole-link}
@@ -16,12 +13,6 @@ use Rattle.display.proofs.DisplayLaws.{Handed, receive-handed, kept, ha
 use borrow.Author.Needs.{needs}
 use Rattle.display.proofs.receive.Statement.{statement}
 use Rattle.display.proofs.receive.Tie as tie
-use Rattle.display.proofs.receive.Reads as reads
-use Rattle.display.proofs.receive.Lts as lts
-use Rattle.board.proofs.read.Reads as read-reads
-use Rattle.display.proofs.hand_up.Reads as hand-up-reads
-use Rattle.display.proofs.keep.Reads as keep-reads
-use Rattle.link.proofs.receiver.receive.Reads as receive-reads
 
 -- src/lib.rt:61:9
 receive-requires : tie.Need-receive-requires

@@ -2,9 +2,6 @@
 use borrow.Author.Needs.{needs}
 use Rattle.display.proofs.start.Statement.{statement}
 use Rattle.display.proofs.start.Tie as tie
-use Rattle.display.proofs.start.Reads as reads
-use Rattle.display.proofs.start.Lts as lts
-use Rattle.link.proofs.receiver.fresh.Reads as fresh-reads
 
 -- src/lib.rt:40:9
 fresh-requires : tie.Need-fresh-requires

@@ -2,9 +2,6 @@
 use borrow.Author.Needs.{needs}
 use Rattle.display.proofs.tick.Statement.{statement}
 use Rattle.display.proofs.tick.Tie as tie
-use Rattle.display.proofs.tick.Reads as reads
-use Rattle.display.proofs.tick.Lts as lts
-use Rattle.rows.proofs.tick.Reads as tick-reads
 
 -- src/lib.rt:49:9
 tick-requires : tie.Need-tick-requires

@@ -1,5 +1,5 @@
 -- `host::arznavik_frame_check` meets its contract: the reader's answer, packed into a report; a payload's length fits its part.
-use mathlib.Core.Path.{_≡_, sym, _∙_}
+use mathlib.Core.Path.{sym, _∙_}
 use native.Mathlib.Omega.{arith}
 use lib.ListN.{length}
 use Rattle.frame.specs.Reading.{readFrame}
@@ -8,10 +8,6 @@ use Rattle.host.proofs.ReportLaws.{read-refused, read-frame, read-size}
 use borrow.Author.Needs.{needs}
 use Rattle.host.proofs.arznavik_frame_check.Statement.{statement}
 use Rattle.host.proofs.arznavik_frame_check.Tie as tie
-use Rattle.host.proofs.arznavik_frame_check.Reads as reads
-use Rattle.host.proofs.arznavik_frame_check.Lts as lts
-use Rattle.frame.proofs.reader.read_frame.Reads as read-frame-reads
-use Rattle.host.proofs.report.Reads as report-reads
 
 -- src/lib.rt:29:11
 read-frame-requires : tie.Need-read-frame-requires

@@ -1,5 +1,5 @@
 -- `host::arznavik_frame_write` meets its contract: the writer's answer, packed into a report; a frame's length fits its part.
-use mathlib.Core.Path.{_≡_, sym, _∙_}
+use mathlib.Core.Path.{sym, _∙_}
 use native.Mathlib.Omega.{arith}
 use lib.ListN.{length}
 use Rattle.frame.specs.Writing.{writeFrame}
@@ -8,10 +8,6 @@ use Rattle.host.proofs.ReportLaws.{write-refused, write-length, write-s
 use borrow.Author.Needs.{needs}
 use Rattle.host.proofs.arznavik_frame_write.Statement.{statement}
 use Rattle.host.proofs.arznavik_frame_write.Tie as tie
-use Rattle.host.proofs.arznavik_frame_write.Reads as reads
-use Rattle.host.proofs.arznavik_frame_write.Lts as lts
-use Rattle.frame.proofs.writer.write_frame.Reads as write-frame-reads
-use Rattle.host.proofs.report.Reads as report-reads
 
 -- src/lib.rt:50:11
 write-frame-requires : tie.Need-write-frame-requires

@@ -3,7 +3,7 @@
 use mathlib.Core.Path.{_≡_}
 use Prim.Native.Nat.{_+_, _-_, _≤_}
 use native.Mathlib.Omega.{arith}
-use lib.ListN.{length, getD}
+use lib.ListN.{getD}
 use Rattle.frame.specs.Stuffing.{plain, escaped, contentMax}
 use Rattle.frame.proofs.UnstuffLaws.{plain-escape, plain-byte, escaped-byte, escaped-fault, unstuff-end, unstuff-escape, unstuff-fault, unstuff-byte, unstuff-full, stored, stopped, ended}
 use Prim.Native.Nat.{ℕ, _<_}

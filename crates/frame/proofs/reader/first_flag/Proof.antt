@@ -8,8 +8,6 @@ use Rattle.frame.specs.Reading.{firstFlag}
 use Rattle.frame.proofs.ReadLaws.{first-flag-here, first-flag-later, first-flag-none}
 use Rattle.frame.proofs.reader.first_flag.Statement.{statement}
 use Rattle.frame.proofs.reader.first_flag.Tie as tie
-use Rattle.frame.proofs.reader.first_flag.Reads as reads
-use Rattle.frame.proofs.reader.first_flag.Lts as lts
 
 abbrev Inv-loop : tie.InvT-loop
 Inv-loop bytes from i₀ i = i + firstFlag (drop i bytes) ≡ from + firstFlag (drop from bytes)

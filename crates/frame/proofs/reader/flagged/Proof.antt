@@ -1,5 +1,5 @@
 -- `frame::reader::flagged` meets its contract: behind a first flag, the next one has to be the last byte.
-use mathlib.Core.Path.{_≡_, sym}
+use mathlib.Core.Path.{sym}
 use Prim.Native.Nat.{_<_}
 use native.Mathlib.Omega.{arith}
 use lib.ListN.{length}
@@ -7,9 +7,6 @@ use Rattle.frame.proofs.ReadLaws.{flagged-short, flagged-first, flagged
 use borrow.Author.Needs.{needs}
 use Rattle.frame.proofs.reader.flagged.Statement.{statement}
 use Rattle.frame.proofs.reader.flagged.Tie as tie
-use Rattle.frame.proofs.reader.flagged.Reads as reads
-use Rattle.frame.proofs.reader.flagged.Lts as lts
-use Rattle.frame.proofs.reader.first_flag.Reads as first-flag-reads
 
 -- src/reader.rt:59:9
 returns : tie.Need-returns

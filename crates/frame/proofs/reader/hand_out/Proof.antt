@@ -1,5 +1,5 @@
 -- `frame::reader::hand_out` meets its contract: what `judge` answered says what the content is, and its payload is what is put.
-use mathlib.Core.Path.{_≡_, sym, _∙_}
+use mathlib.Core.Path.{sym, _∙_}
 use mathlib.Core.List.{List}
 use native.Mathlib.Omega.{arith}
 use Rattle.frame.specs.Content.{judged}
@@ -8,10 +8,6 @@ use Prim.Native.Nat.{ℕ}
 use borrow.Author.Needs.{needs}
 use Rattle.frame.proofs.reader.hand_out.Statement.{statement}
 use Rattle.frame.proofs.reader.hand_out.Tie as tie
-use Rattle.frame.proofs.reader.hand_out.Reads as reads
-use Rattle.frame.proofs.reader.hand_out.Lts as lts
-use Rattle.frame.proofs.content.judge.Reads as judge-reads
-use Rattle.slices.proofs.put.Reads as put-reads
 
 -- src/reader.rt:43:9
 judge-requires : tie.Need-judge-requires

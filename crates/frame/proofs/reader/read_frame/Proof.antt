@@ -6,15 +6,11 @@ use Prim.Native.Nat.{_≤_}
 use native.Mathlib.Omega.{arith}
 use borrow.Author.Tests.{not-true, not-false}
 use lib.ListN.{length}
-use Rattle.frame.specs.Reading.{flaggedBytes, between}
+use Rattle.frame.specs.Reading.{flaggedBytes}
 use Rattle.frame.proofs.ReadLaws.{flagged-two, frame-no-room, frame-unflagged, frame-run, between-part, refuses}
 use borrow.Author.Needs.{needs}
 use Rattle.frame.proofs.reader.read_frame.Statement.{statement}
 use Rattle.frame.proofs.reader.read_frame.Tie as tie
-use Rattle.frame.proofs.reader.read_frame.Reads as reads
-use Rattle.frame.proofs.reader.read_frame.Lts as lts
-use Rattle.frame.proofs.reader.flagged.Reads as flagged-reads
-use Rattle.frame.proofs.reader.read_run.Reads as read-run-reads
 
 -- src/reader.rt:27:9
 returns : tie.Need-returns

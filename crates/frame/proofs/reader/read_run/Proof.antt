@@ -1,10 +1,8 @@
 -- `frame::reader::read_run` meets its contract: the sent bytes that were copied are enough for the verdict of the whole run, the
 -- array holds the unstuffed content, and what `hand_out` did with it is what is read.
-use mathlib.Core.Path.{_≡_, refl, sym, _∙_}
-use mathlib.Core.List.{List}
-use Prim.Native.Nat.{ℕ}
+use mathlib.Core.Path.{refl, sym}
 use native.Mathlib.Omega.{arith}
-use lib.ListN.{length, replicate}
+use lib.ListN.{replicate}
 use lib.Seq.{length-take-le}
 use Rattle.frame.specs.Stuffing.{unstuff}
 use Rattle.frame.specs.Answers.{UnstuffsAs}
@@ -13,12 +11,6 @@ use Rattle.frame.proofs.ReadLaws.{run-refused, run-content, refuses}
 use borrow.Author.Needs.{needs}
 use Rattle.frame.proofs.reader.read_run.Statement.{statement}
 use Rattle.frame.proofs.reader.read_run.Tie as tie
-use Rattle.frame.proofs.reader.read_run.Reads as reads
-use Rattle.frame.proofs.reader.read_run.Lts as lts
-use Rattle.frame.proofs.reader.hand_out.Reads as hand-out-reads
-use Rattle.frame.proofs.reader.read_plain.Reads as read-plain-reads
-use Rattle.frame.proofs.reader.sent_count.Reads as sent-count-reads
-use Rattle.slices.proofs.put.Reads as put-reads
 
 -- src/reader.rt:41:17
 slice-aggregate-put : tie.Need-slice-aggregate-put

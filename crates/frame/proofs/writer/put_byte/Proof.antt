@@ -5,9 +5,6 @@ use Rattle.frame.proofs.StuffLaws.{stuff-flag, stuff-escape, stuff-othe
 use borrow.Author.Needs.{needs}
 use Rattle.frame.proofs.writer.put_byte.Statement.{statement}
 use Rattle.frame.proofs.writer.put_byte.Tie as tie
-use Rattle.frame.proofs.writer.put_byte.Reads as reads
-use Rattle.frame.proofs.writer.put_byte.Lts as lts
-use Rattle.frame.proofs.writer.put_pair.Reads as put-pair-reads
 
 -- src/writer.rt:83:9
 put-pair-requires : tie.Need-put-pair-requires

@@ -1,6 +1,6 @@
 -- `frame::writer::put_frame` meets its contract: the lengths of the stuffed parts add up to the frame's, and the parts put one
 -- behind the other are the frame.
-use mathlib.Core.Path.{_≡_, refl, sym, ap, _∙_}
+use mathlib.Core.Path.{_≡_, sym, _∙_}
 use mathlib.Core.List.{List, _++_}
 use Prim.Native.Nat.{ℕ, _+_, _*_, _≤_, _<_}
 use native.Mathlib.Omega.{arith}
@@ -12,10 +12,6 @@ use Rattle.frame.proofs.WriteLaws.{framed-length, assembled, content-no
 use borrow.Author.Needs.{needs}
 use Rattle.frame.proofs.writer.put_frame.Statement.{statement}
 use Rattle.frame.proofs.writer.put_frame.Tie as tie
-use Rattle.frame.proofs.writer.put_frame.Reads as reads
-use Rattle.frame.proofs.writer.put_frame.Lts as lts
-use Rattle.frame.proofs.writer.put_stuffed.Reads as put-stuffed-reads
-use Rattle.frame.proofs.writer.stuffed_length.Reads as stuffed-length-reads
 
 -- src/writer.rt:38:9
 stuffed-length-requires : tie.Need-stuffed-length-requires

@@ -6,8 +6,6 @@ use lib.ListN.{length-set}
 use borrow.Author.Needs.{needs}
 use Rattle.frame.proofs.writer.put_pair.Statement.{statement}
 use Rattle.frame.proofs.writer.put_pair.Tie as tie
-use Rattle.frame.proofs.writer.put_pair.Reads as reads
-use Rattle.frame.proofs.writer.put_pair.Lts as lts
 
 -- src/writer.rt:97:5
 slice-write-out : tie.Need-slice-write-out

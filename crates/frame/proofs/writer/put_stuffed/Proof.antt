@@ -1,18 +1,15 @@
 -- `frame::writer::put_stuffed` meets its contract. The invariant says what is still to do: the bytes left, stuffed and put from the
 -- present place on, give what the whole string put at the start gives.
-use mathlib.Core.Path.{_≡_, refl, sym, ap, _∙_}
+use mathlib.Core.Path.{_≡_, refl, _∙_}
 use Prim.Native.Nat.{_+_, _-_, _≤_, _<_}
 use native.Mathlib.Omega.{arith}
-use lib.ListN.{length, drop, getD}
+use lib.ListN.{length, drop}
 use Rattle.slices.specs.Put.{putAt}
 use Rattle.slices.proofs.PutLaws.{put-append}
-use Rattle.frame.specs.Stuffing.{stuffByte, stuff}
+use Rattle.frame.specs.Stuffing.{stuff}
 use Rattle.frame.proofs.StuffLaws.{stuff-from, stuff-none, size-from, size-none}
 use Rattle.frame.proofs.writer.put_stuffed.Statement.{statement}
 use Rattle.frame.proofs.writer.put_stuffed.Tie as tie
-use Rattle.frame.proofs.writer.put_stuffed.Reads as reads
-use Rattle.frame.proofs.writer.put_stuffed.Lts as lts
-use Rattle.frame.proofs.writer.put_byte.Reads as put-byte-reads
 
 abbrev Inv-loop : tie.InvT-loop
 Inv-loop out₀ at content to₀ i₀ out to i =

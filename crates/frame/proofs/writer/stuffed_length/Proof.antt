@@ -1,6 +1,6 @@
 -- `frame::writer::stuffed_length` meets its contract. The invariant says what is still to do: the sum so far with the stuffed
 -- length of the bytes left is that of all. It fits, since no byte becomes more than two.
-use mathlib.Core.Path.{_≡_, sym}
+use mathlib.Core.Path.{_≡_}
 use Prim.Native.Nat.{_+_, _-_, _≤_, _<_}
 use native.Mathlib.Nat.{zero-add}
 use native.Mathlib.Omega.{arith}
@@ -10,9 +10,6 @@ use Rattle.frame.specs.Stuffing.{stuff}
 use Rattle.frame.proofs.StuffLaws.{length-stuff, size-from, size-none}
 use Rattle.frame.proofs.writer.stuffed_length.Statement.{statement}
 use Rattle.frame.proofs.writer.stuffed_length.Tie as tie
-use Rattle.frame.proofs.writer.stuffed_length.Reads as reads
-use Rattle.frame.proofs.writer.stuffed_length.Lts as lts
-use Rattle.frame.proofs.writer.stuffed_size.Reads as stuffed-size-reads
 
 abbrev Inv-loop : tie.InvT-loop
 Inv-loop content total₀ i₀ total i = (i ≤ length content) × (total + length (stuff (drop i content)) ≡ length (stuff content))

@@ -5,8 +5,6 @@ use native.Mathlib.Omega.{arith}
 use Rattle.frame.proofs.StuffLaws.{stuff-other, two-bytes}
 use Rattle.frame.proofs.writer.stuffed_size.Statement.{statement}
 use Rattle.frame.proofs.writer.stuffed_size.Tie as tie
-use Rattle.frame.proofs.writer.stuffed_size.Reads as reads
-use Rattle.frame.proofs.writer.stuffed_size.Lts as lts
 
 -- src/writer.rt:59:1
 returns : tie.Need-returns

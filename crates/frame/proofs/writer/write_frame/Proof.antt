@@ -1,16 +1,10 @@
 -- `frame::writer::write_frame` meets its contract: the check goes on over the payload from that of type and sequence, and what
 -- `put_frame` writes are the parts of the content.
-use mathlib.Core.Path.{_≡_, refl, sym, ap, _∙_}
-use native.Mathlib.Omega.{arith}
 use lib.ListN.{length}
 use Rattle.frame.proofs.WriteLaws.{content-parts, payload-too-long, payload-allowed, refuses}
 use borrow.Author.Needs.{needs}
 use Rattle.frame.proofs.writer.write_frame.Statement.{statement}
 use Rattle.frame.proofs.writer.write_frame.Tie as tie
-use Rattle.frame.proofs.writer.write_frame.Reads as reads
-use Rattle.frame.proofs.writer.write_frame.Lts as lts
-use Rattle.crc.proofs.check.Reads as check-reads
-use Rattle.frame.proofs.writer.put_frame.Reads as put-frame-reads
 
 -- src/writer.rt:25:9
 returns : tie.Need-returns

@@ -1,5 +1,5 @@
 -- `transfer::judging::judge_end` meets its contract: each return has its law, and the sum is made only where it fits in the buffer.
-use mathlib.Core.Path.{_≡_, sym, _∙_}
+use mathlib.Core.Path.{sym, _∙_}
 use Prim.Native.Nat.{_+_, _≤_, _<_}
 use native.Mathlib.Omega.{arith}
 use Rattle.transfer.proofs.JudgeLaws.{end-past-room, end-past-length, end-early, end-good}

@@ -1,5 +1,5 @@
--- What a watch list and a packet do to the entries of a board, over the list of names and states: the laws that speak of a
--- board's whole life cite these.
+-- What a watch list and a packet do to the entries of a board follows from what they do to its rows: a fresh row shows `never`,
+-- and only the row of a watched name is changed.
 use mathlib.Core.Path.{_≡_, refl, sym, ap, _∙_}
 use mathlib.Core.Bool.{Bool, true, false, cond, _&&_}
 use mathlib.Core.List.{List, [], _∷_, _++_, map}

@@ -1,4 +1,5 @@
--- A new packet is its frame's payload, and fits the packet buffer of a call that was not refused.
+-- A new packet fits the packet buffer of a call that was not refused: it is the payload of content of at most 387 bytes, and no
+-- other answer brings a packet.
 use mathlib.Core.Path.{_≡_, refl, sym, ap, _∙_}
 use mathlib.Core.Bool.{Bool, true, false, cond}
 use mathlib.Core.List.{List}

@@ -1,4 +1,5 @@
--- What the definition of a flagged string says of each place: a flag first, a flag last, none between.
+-- A flagged string has a flag first, a flag last and none between, since its first flag behind the first byte stands at its
+-- end.
 use mathlib.Core.Path.{_≡_, refl}
 use mathlib.Core.Bool.{Bool, true, false, cond}
 use mathlib.Core.List.{List, [], _∷_}

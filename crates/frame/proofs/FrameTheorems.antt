@@ -1,5 +1,6 @@
--- Every written frame is read back as its type, sequence and payload; it has flags at its ends and nowhere else; its length is
--- 6 plus the payload and the escapes in the content.
+-- Every written frame is read back as its type, sequence and payload, since unstuffing undoes stuffing and the check over
+-- content with its check is 0; it has flags at its ends alone, since no stuffed byte is one; its length is that of the stuffed
+-- content and two flags.
 use mathlib.Core.Path.{_≡_, refl, sym, ap, _∙_}
 use mathlib.Core.Bool.{Bool, true, false, cond}
 use mathlib.Core.List.{List, [], _∷_, _++_, append-assoc}

@@ -1,4 +1,5 @@
--- A count that wraps at 65,536 is the ledger's modulo 65,536 after one more as before.
+-- A count that wraps at 65,536 is the ledger's modulo 65,536 after one more as before, since the remainder of one more depends
+-- on the remainder alone.
 use mathlib.Core.Path.{_≡_, refl, ap}
 use mathlib.Core.List.{List, [], _∷_, map}
 use Prim.Native.Nat.{ℕ, zero, suc, _-_}

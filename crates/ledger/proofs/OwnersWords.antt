@@ -1,5 +1,6 @@
--- Demand 3 in the owner's words: cuts do not matter; a row is current exactly when the last accepted update of its name closed fewer
--- than 30 ticks ago; a data frame that is repeated at once changes no row.
+-- Demand 3 in the owner's words, each read off the ledger, since display and ledger agree after every list: cuts do not matter;
+-- a row is current exactly when the last accepted update of its name closed fewer than 30 ticks ago; a data frame that is
+-- repeated at once changes no row.
 use mathlib.Core.Path.{_≡_, refl, sym, ap, ap₂, _∙_}
 use mathlib.Core.Bool.{Bool, true, false, cond, not, _||_}
 use mathlib.Core.List.{List, [], _∷_, map}

@@ -1,4 +1,5 @@
--- One call keeps display and ledger in agreement, and gives what the ledger gives.
+-- One call keeps display and ledger in agreement, and gives what the ledger gives: the walk over its piece reaches the same
+-- run, and the frame that it closes does the same to both.
 use mathlib.Core.Path.{_≡_, refl, ap, ap₂, _∙_, subst⁻¹}
 use mathlib.Core.Bool.{Bool, true, false, cond, _||_}
 use mathlib.Core.List.{List, map}

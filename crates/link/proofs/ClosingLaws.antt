@@ -1,4 +1,5 @@
--- A frame at its closing flag, one law for each way through the code.
+-- A frame at its closing flag, one law for each way through the code: what the tests on the way say of it settles the outcome.
+-- Nine bytes are room for its acknowledgement, of which at most three are escaped.
 use mathlib.Core.Path.{_≡_, refl, sym, _∙_}
 use mathlib.Core.Bool.{Bool, true, false}
 use mathlib.Core.List.{List, [], _∷_}

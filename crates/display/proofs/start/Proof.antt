@@ -1,4 +1,4 @@
--- `display::start` meets its contract: a fresh link beside the board.
+-- `display::start` meets its contract: what `fresh` answers is put beside the board.
 use borrow.Author.Needs.{needs}
 use Rattle.display.proofs.start.Statement.{statement}
 use Rattle.display.proofs.start.Tie as tie

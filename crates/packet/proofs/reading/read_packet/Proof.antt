@@ -1,4 +1,5 @@
--- `packet::reading::read_packet` meets its contract: each return is one of the three answers.
+-- `packet::reading::read_packet` meets its contract: what the tests on the way say of the bytes settles which of the three
+-- answers it is.
 use mathlib.Core.Path.{_≡_, sym, _∙_}
 use mathlib.Core.Bool.{true}
 use Prim.Native.Nat.{_≤_}

@@ -1,4 +1,5 @@
--- `transfer::fragment::read_length` meets its contract: without a Length, with one too late, and with one that is a number or not.
+-- `transfer::fragment::read_length` meets its contract: each answer is the law for whether there is a Length, stands at offset
+-- 0 and is a number.
 use mathlib.Core.Path.{_≡_, sym, ap, _∙_}
 use mathlib.Core.List.{List}
 use Rattle.packet.specs.Items.{Item}

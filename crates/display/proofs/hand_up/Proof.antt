@@ -3,11 +3,9 @@ use borrow.Author.Needs.{needs}
 use Rattle.display.proofs.hand_up.Statement.{statement}
 use Rattle.display.proofs.hand_up.Tie as tie
 
--- src/lib.rt:86:9
 count-reading-requires : tie.Need-count-reading-requires
 count-reading-requires c κs = search needs
 
--- src/lib.rt:75:1
 returns : tie.Need-returns
 returns c = rw (c .count-reading .ensures)
 

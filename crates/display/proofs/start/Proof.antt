@@ -3,11 +3,9 @@ use borrow.Author.Needs.{needs}
 use Rattle.display.proofs.start.Statement.{statement}
 use Rattle.display.proofs.start.Tie as tie
 
--- src/lib.rt:40:9
 fresh-requires : tie.Need-fresh-requires
 fresh-requires c κs = search needs
 
--- src/lib.rt:37:1
 returns : tie.Need-returns
 returns c = rw (c .fresh .ensures)
 

@@ -8,30 +8,24 @@ use borrow.Author.Needs.{needs}
 use Rattle.frame.proofs.reader.flagged.Statement.{statement}
 use Rattle.frame.proofs.reader.flagged.Tie as tie
 
--- src/reader.rt:59:9
 returns : tie.Need-returns
 returns c = sym (flagged-short (c .before .before .args .bytes .now) (c .if1 .taken))
 
--- src/reader.rt:61:8
 shared-slice-read-if2 : tie.Need-shared-slice-read-if2
 shared-slice-read-if2 c = search needs
 
--- src/reader.rt:62:9
 returns-2 : tie.Need-returns-2
 returns-2 c =
     let bytes = c .before .before .before .before .args .bytes .now in
     let some : 0 < length bytes = omega arith in
     sym (flagged-first bytes some (c .if2 .taken))
 
--- src/reader.rt:64:16
 sub-last : tie.Need-sub-last
 sub-last c = search needs
 
--- src/reader.rt:65:5
 first-flag-requires : tie.Need-first-flag-requires
 first-flag-requires c κs = search needs
 
--- src/reader.rt:55:1
 returns-3 : tie.Need-returns-3
 returns-3 c =
     let bytes = c .before .before .before .before .before .args .bytes .now in

@@ -21,15 +21,12 @@ Inv-loop out₀ at content to₀ i₀ out to i =
 abbrev μ-loop : tie.MeasureT-loop
 μ-loop out₀ at content to₀ i₀ out to i = length content - i
 
--- src/writer.rt:70:5
 loop-holds : tie.Need-loop-holds Inv-loop μ-loop
 loop-holds c = (omega arith, refl, refl, refl)
 
--- src/writer.rt:71:32
 shared-slice-read-put-byte : tie.Need-shared-slice-read-put-byte Inv-loop μ-loop
 shared-slice-read-put-byte c = omega arith
 
--- src/writer.rt:71:9
 put-byte-requires : tie.Need-put-byte-requires Inv-loop μ-loop
 put-byte-requires c κs =
     let loop = c .before .before .before .loop in
@@ -38,15 +35,12 @@ put-byte-requires c κs =
     let more : loop .i < length content = omega arith in
     omega (arith, size-from content (loop .i) more, start .pre)
 
--- src/writer.rt:72:9
 add-i : tie.Need-add-i Inv-loop μ-loop
 add-i c = omega arith
 
--- src/writer.rt:70:5
 loop-less : tie.Need-loop-less Inv-loop μ-loop
 loop-less c = omega arith
 
--- src/writer.rt:70:5
 loop-again : tie.Need-loop-again Inv-loop μ-loop
 loop-again c =
     let put = c .before .before .put-byte in
@@ -60,11 +54,9 @@ loop-again c =
       rw (put .ensures .0, put .ensures .1, put-append, ← rest) (loop .inv .3),
     )
 
--- src/writer.rt:64:1
 same-length : tie.Need-same-length Inv-loop μ-loop
 same-length c = c .before .loop .inv .2
 
--- src/writer.rt:64:1
 returns : tie.Need-returns Inv-loop μ-loop
 returns c =
     let loop = c .before .loop in

@@ -40,10 +40,15 @@ module _ (first : List ℕ) (held : Held) (holds : Holds first held) (bytes : Li
   abbrev leftBy : Verdict → Held
   leftBy v = left held bytes (fileBy (held .file) value v) (outcomeBy (held .transfer) v)
 
+  -- a refused packet adds nothing to what is joined
+  same-joined : (number : ℕ) → leftBy (Refused number) .joined ≡ held .joined
+  unfolding outcomeBy acceptedBytes
+  same-joined number = append-nil (held .joined)
+
   refused-holds : (number : ℕ) → Holds first (leftBy (Refused number))
-  unfolding outcomeBy fileBy acceptedBytes
+  unfolding outcomeBy fileBy
   refused-holds number =
-      rw (append-nil (held .joined))
+      rw (same-joined number)
       record { laid = holds .laid; counted = holds .counted; fits = holds .fits; whole = holds .whole }
 
   accepted-holds : (offset next : ℕ) (declared : Declared) (last : Bool) → verdictFor (held .transfer) bytes (held .file) ≡ Accepted offset next declared last → Holds first (leftBy (Accepted offset next declared last))

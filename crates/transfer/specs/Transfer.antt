@@ -73,21 +73,28 @@ unfoldable pub endsEarly : Declared → Bool → ℕ → Bool
 endsEarly Unknown last end = false
 endsEarly (Known total) last end = last && ltb end total
 
--- 01, Refusal numbers, 18: the fragment or the declared length passes the declared length or the lent buffer; then 19.
--- A fragment of count bytes at offset ends at their sum.
+-- 01, Refusal numbers, 18: the fragment or the declared length passes the declared length or the lent buffer. A fragment of
+-- count bytes at offset ends at their sum.
+unfoldable pub isLong : ℕ → ℕ → ℕ → Declared → Bool
+isLong room offset count declared = ltb room (offset + count) || passesLength declared (offset + count) room
+
+-- 01, Refusal numbers, 17: offset is not the next one, or the transfer is complete; otherwise the transfer goes on there
+unfoldable pub goesOn : Transfer → ℕ → Bool
+goesOn transfer offset = not (transfer .complete) && eqb offset (transfer .next)
+
+-- 01, Refusal numbers: 18, then 19
 unfoldable pub judgeEnd : ℕ → ℕ → ℕ → Declared → Bool → Verdict
 judgeEnd room offset count declared last =
-    cond (ltb room (offset + count) || passesLength declared (offset + count) room)
+    cond (isLong room offset count declared)
     (verdict.Refused pastLength)
     (cond (endsEarly declared last (offset + count)) (verdict.Refused earlyEnd) (verdict.Accepted offset (offset + count) declared last))
 
--- 01, Refusal numbers: 20, 16, 17, 18, 19 for fragments. 16: a fragment of another location; 17: offset is not the next one,
--- or the transfer is complete.
+-- 01, Refusal numbers: 20, 16, 17, 18, 19 for fragments. 16: a fragment of another location.
 unfoldable pub judgeForm : Transfer → ℕ → List Item → Form → Verdict
 judgeForm transfer room items Bad = verdict.Refused badFragment
 judgeForm transfer room items (Good offset declared last) =
     cond (sameBytes (valueIn locationKind items) (locationOf transfer))
-    (cond (eqb offset (transfer .next) && not (transfer .complete))
+    (cond (goesOn transfer offset)
     (judgeEnd room offset (length (valueIn binaryKind items)) (knownLength declared (transfer .declared)) last)
     (verdict.Refused wrongOffset))
     (verdict.Refused otherLocation)

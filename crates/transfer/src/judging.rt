@@ -1,13 +1,14 @@
 // What a packet is to a transfer: the tests of a fragment, in the order of their refusals.
 ghost use mathlib.Core.Path.{_≡_};
 ghost use Rattle.packet.specs.Packet.{packetOf, packetItems};
-ghost use Rattle.transfer.specs.Transfer.{knownLength, passesLength, endsEarly, judgeEnd, judgeForm, verdictOf};
+ghost use Rattle.transfer.specs.Transfer.{knownLength, passesLength, isLong, endsEarly, judgeEnd, judgeForm, verdictOf};
 use crate::fragment::BINARY_KIND;
 use crate::fragment::Form;
 use crate::fragment::read_form;
 use crate::fragment::value;
 use crate::state::Declared;
 use crate::state::Transfer;
+use crate::state::goes_on;
 use crate::state::is_of;
 use packet::LOCATION_KIND;
 use refusals::BAD_FRAGMENT;
@@ -66,10 +67,8 @@ fn judge_form(transfer: Transfer, packet: &[u8], room: usize, form: Form) -> Ver
     if !ours {
         return Verdict::Refused(OTHER_LOCATION);
     }
-    if offset != transfer.next {
-        return Verdict::Refused(WRONG_OFFSET);
-    }
-    if transfer.complete {
+    let next = goes_on(transfer, offset);
+    if !next {
         return Verdict::Refused(WRONG_OFFSET);
     }
     let bytes = value(packet, BINARY_KIND);
@@ -78,22 +77,15 @@ fn judge_form(transfer: Transfer, packet: &[u8], room: usize, form: Form) -> Ver
     judge_end(room, offset, bytes.len(), known, last)
 }
 
-// Tests where a fragment ends. No sum is made before it is known to fit in the buffer.
+// Tests where a fragment ends.
 fn judge_end(room: usize, offset: usize, count: usize, declared: Declared, last: bool) -> Verdict
     ensures { λ r. ⌜ r ≡ judgeEnd room offset count declared last ⌝ }
 {
-    if room < offset {
-        return Verdict::Refused(PAST_LENGTH);
-    }
-    let left = room - offset;
-    if left < count {
-        return Verdict::Refused(PAST_LENGTH);
-    }
-    let next = offset + count;
-    let long = passes_length(declared, next, room);
+    let long = is_long(room, offset, count, declared);
     if long {
         return Verdict::Refused(PAST_LENGTH);
     }
+    let next = offset + count;
     let early = ends_early(declared, last, next);
     if early {
         return Verdict::Refused(EARLY_END);
@@ -104,6 +96,22 @@ fn judge_end(room: usize, offset: usize, count: usize, declared: Declared, last:
         declared,
         last,
     }
+}
+
+// Whether `count` bytes at `offset` pass the room of the buffer or the declared length, or that the
+// room. No sum is made before it is known to fit in the buffer.
+fn is_long(room: usize, offset: usize, count: usize, declared: Declared) -> bool
+    ensures { λ r. ⌜ r ≡ isLong room offset count declared ⌝ }
+{
+    if room < offset {
+        return true;
+    }
+    let left = room - offset;
+    if left < count {
+        return true;
+    }
+    let end = offset + count;
+    passes_length(declared, end, room)
 }
 
 // Whether a fragment that ends at `end` passes the declared length, or that the buffer's room.

@@ -1,7 +1,7 @@
 // A transfer of one file: what it is at the start, which file it is of, and what a fragment makes of it.
 ghost use mathlib.Core.Path.{_≡_};
 ghost use Rattle.slices.specs.Same.{sameBytes};
-ghost use Rattle.transfer.specs.Transfer.{freshTransfer, locationOf, advanced};
+ghost use Rattle.transfer.specs.Transfer.{freshTransfer, locationOf, goesOn, advanced};
 
 // How many bytes a transfer has for its location.
 pub const LOCATION_ROOM: usize = 64;
@@ -57,4 +57,14 @@ pub(crate) fn is_of(transfer: Transfer, location: &[u8]) -> bool
     let bytes = transfer.location;
     let own = slices::first(&bytes, transfer.length);
     slices::same(location, own)
+}
+
+// Whether the transfer goes on at `offset`: it is not complete, and that is its next offset.
+pub(crate) fn goes_on(transfer: Transfer, offset: usize) -> bool
+    ensures { λ r. ⌜ r ≡ goesOn transfer offset ⌝ }
+{
+    if transfer.complete {
+        return false;
+    }
+    offset == transfer.next
 }

@@ -1,5 +1,7 @@
 -- `packet::items::begins_with_item` meets its contract: each return answers the tests that were made on the way to it.
+use Prim.Native.Nat.{_+_, _≤_, _<_}
 use native.Mathlib.Omega.{arith}
+use lib.ListN.{length, getD}
 use borrow.Author.Needs.{needs}
 use borrow.Author.Tests.{le-leb, lt-leb, eq-eqb, ne-eqb}
 use Rattle.packet.specs.Walk.{beginsWithItem}
@@ -21,7 +23,14 @@ add-end c = omega (arith, c .shared-slice-known .given 1)
 
 returns-2 : tie.Need-returns-2
 unfolding beginsWithItem
-returns-2 c = rw (le-leb _ _ (c .before .before .if1 .left), lt-leb _ _ (c .if2 .taken))
+returns-2 c =
+    let rest = c .before .before .before .args .rest .now in
+    let cut : length rest < getD rest 1 0 + 2 = omega arith in
+    rw (le-leb _ _ (c .before .before .if1 .left), lt-leb _ _ cut)
+
+-- past the test the item is whole
+whole : (c : tie.Else2) → getD (c .before .before .before .args .rest .now) 1 0 + 2 ≤ length (c .before .before .before .args .rest .now)
+whole c = omega arith
 
 shared-slice-read-if3 : tie.Need-shared-slice-read-if3
 shared-slice-read-if3 c = search needs
@@ -29,12 +38,12 @@ shared-slice-read-if3 c = search needs
 returns-3 : tie.Need-returns-3
 unfolding beginsWithItem
 returns-3 c =
-    rw (le-leb _ _ (c .before .before .before .before .if1 .left), le-leb _ _ (c .before .before .if2 .left), eq-eqb _ _ (c .if3 .taken))
+    rw (le-leb _ _ (c .before .before .before .before .if1 .left), le-leb _ _ (whole (c .before .before)), eq-eqb _ _ (c .if3 .taken))
 
 returns-4 : tie.Need-returns-4
 unfolding beginsWithItem
 returns-4 c =
-    rw (le-leb _ _ (c .before .before .before .before .if1 .left), le-leb _ _ (c .before .before .if2 .left), ne-eqb _ _ (c .if3 .left))
+    rw (le-leb _ _ (c .before .before .before .before .if1 .left), le-leb _ _ (whole (c .before .before)), ne-eqb _ _ (c .if3 .left))
 
 pub begins-with-item-spec : {M : Type 1} → statement M
 begins-with-item-spec =

@@ -2,7 +2,7 @@
 -- says that those not yet passed settle it alike.
 use mathlib.Core.Path.{_≡_, refl, sym, _∙_}
 use mathlib.Core.Bool.{false}
-use Prim.Native.Nat.{_-_, _≤_}
+use Prim.Native.Nat.{_-_, _≤_, _<_}
 use native.Mathlib.Numerals.{add-one}
 use native.Mathlib.Omega.{arith}
 use borrow.Author.Tests.{le-leb, lt-leb, not-true, not-false}
@@ -24,7 +24,13 @@ returns c = rw (lt-leb _ _ (c .if1 .taken))
 
 returns-2 : tie.Need-returns-2 Inv-loop μ-loop
 unfolding validName between
-returns-2 c = rw (le-leb _ _ (c .before .if1 .left), lt-leb _ _ (c .if2 .taken))
+returns-2 c =
+    let long : 27 < length (c .before .before .before .args .name .now) = omega arith in
+    rw (le-leb _ _ (c .before .if1 .left), lt-leb _ _ long)
+
+-- past the test of the length
+short : (c : tie.Else2 Inv-loop μ-loop) → length (c .before .before .before .args .name .now) ≤ 27
+short c = omega arith
 
 shared-slice-read-is-letter : tie.Need-shared-slice-read-is-letter Inv-loop μ-loop
 shared-slice-read-is-letter c = omega arith
@@ -36,12 +42,12 @@ returns-3 : tie.Need-returns-3 Inv-loop μ-loop
 unfolding validName between
 returns-3 c =
     let other : isLetter (getD (c .before .before .before .before .before .before .args .name .now) 0 0) ≡ false = sym (c .before .is-letter .ensures) ∙ not-true _ (c .if3 .taken) in
-    rw (le-leb _ _ (c .before .before .before .before .if1 .left), le-leb _ _ (c .before .before .before .if2 .left), other)
+    rw (le-leb _ _ (c .before .before .before .before .if1 .left), le-leb _ _ (short (c .before .before .before)), other)
 
 -- past the three tests the bytes settle it
 settled : (c : tie.Else3 Inv-loop μ-loop) → validName (c .before .before .before .before .before .before .args .name .now) ≡ allNameBytes (c .before .before .before .before .before .before .args .name .now)
 settled c =
-    valid-when (c .before .before .before .before .before .before .args .name .now) (c .before .before .before .before .if1 .left) (c .before .before .before .if2 .left) (sym (c .before .is-letter .ensures) ∙ not-false _ (c .if3 .left))
+    valid-when (c .before .before .before .before .before .before .args .name .now) (c .before .before .before .before .if1 .left) (short (c .before .before .before)) (sym (c .before .is-letter .ensures) ∙ not-false _ (c .if3 .left))
 
 loop-holds : tie.Need-loop-holds Inv-loop μ-loop
 loop-holds c = (omega arith, refl)

@@ -1,9 +1,11 @@
 -- `transfer::fragment::right_items` meets its contract: the counts are tested in the order of the definition, and each way has its law.
 use mathlib.Core.Path.{_≡_, sym, _∙_}
 use mathlib.Core.List.{List}
-use Rattle.packet.specs.Items.{Item, countOf}
+use Prim.Native.Nat.{_≤_, _<_}
+use native.Mathlib.Omega.{arith}
+use Rattle.packet.specs.Items.{Item, eofKind, countOf}
 use Rattle.packet.specs.Packet.{packetItems}
-use Rattle.transfer.specs.Fragment.{binaryKind, offsetKind, locationKind}
+use Rattle.transfer.specs.Fragment.{binaryKind, offsetKind, lengthKind, locationKind}
 use Rattle.transfer.proofs.FormLaws.{items-location, items-offset, items-binary, items-lengths, items-ends, items-all}
 use borrow.Author.Needs.{needs}
 use Rattle.transfer.proofs.fragment.right_items.Statement.{statement}
@@ -56,7 +58,7 @@ returns-4 c =
     let third = c .before .before .before in
     let second = third .before .before in
     let first = second .before .before in
-    let two = rw (c .before .before .count4 .ensures) at (c .if4 .taken) in
+    let two : 1 < countOf lengthKind (items (first .before)) = omega (arith, c .before .before .count4 .ensures) in
     sym (items-lengths (items (first .before)) (location first) (offset second) (binary third) two)
 
 returns-5 : tie.Need-returns-5
@@ -65,8 +67,8 @@ returns-5 c =
     let third = counts .before .before in
     let second = third .before .before in
     let first = second .before .before in
-    let lengths = rw (counts .before .count4 .ensures) at (c .before .if4 .left) in
-    let two = rw (counts .count5 .ensures) at (c .if5 .taken) in
+    let lengths : countOf lengthKind (items (first .before)) ≤ 1 = omega (arith, counts .before .count4 .ensures) in
+    let two : 1 < countOf eofKind (items (first .before)) = omega (arith, counts .count5 .ensures) in
     sym (items-ends (items (first .before)) (location first) (offset second) (binary third) lengths two)
 
 add-optional : tie.Need-add-optional
@@ -84,8 +86,8 @@ returns-6 c =
     let third = counts .before .before in
     let second = third .before .before in
     let first = second .before .before in
-    let lengths = rw (counts .before .count4 .ensures) at (c .before .before .if4 .left) in
-    let ends = rw (counts .count5 .ensures) at (c .before .if5 .left) in
+    let lengths : countOf lengthKind (items (first .before)) ≤ 1 = omega (arith, counts .before .count4 .ensures) in
+    let ends : countOf eofKind (items (first .before)) ≤ 1 = omega (arith, counts .count5 .ensures) in
     rw (c .count-all .ensures, counts .before .count4 .ensures, counts .count5 .ensures)
     (sym (items-all (items (first .before)) (location first) (offset second) (binary third) lengths ends))
 

@@ -1,67 +1,42 @@
--- `transfer::judging::judge_end` meets its contract: each return has its law, and the sum is made only where it fits in the buffer.
-use mathlib.Core.Path.{sym, _∙_}
-use Prim.Native.Nat.{_+_, _≤_, _<_}
+-- `transfer::judging::judge_end` meets its contract: the two tests are the definition's, in its order, and a fragment that is not too
+-- long ends within the buffer, so the sum fits.
+use mathlib.Core.Path.{_≡_, sym, _∙_}
+use mathlib.Core.Bool.{false}
 use native.Mathlib.Omega.{arith}
-use Rattle.transfer.proofs.JudgeLaws.{end-past-room, end-past-length, end-early, end-good}
+use Rattle.transfer.specs.Transfer.{isLong, judgeEnd}
+use Rattle.transfer.proofs.AcceptedLaws.{short-fits}
 use borrow.Author.Needs.{needs}
 use Rattle.transfer.proofs.judging.judge_end.Statement.{statement}
 use Rattle.transfer.proofs.judging.judge_end.Tie as tie
 
-returns : tie.Need-returns
-returns c =
-    let args = c .before .args in
-    let past : args .room < args .offset + args .count = omega arith in
-    sym (end-past-room (args .room) (args .offset) (args .count) (args .declared) (args .last) past)
+is-long-requires : tie.Need-is-long-requires
+is-long-requires c κs = search needs
 
-returns-2 : tie.Need-returns-2
-returns-2 c =
-    let args = c .before .before .args in
-    let past : args .room < args .offset + args .count = omega arith in
-    sym (end-past-room (args .room) (args .offset) (args .count) (args .declared) (args .last) past)
+returns : tie.Need-returns
+unfolding judgeEnd
+returns c = let long = sym (c .before .is-long .ensures) ∙ c .if1 .taken in rw long
+
+short : (c : tie.Else1) → isLong (c .before .before .args .room) (c .before .before .args .offset) (c .before .before .args .count) (c .before .before .args .declared) ≡ false
+short c = sym (c .before .is-long .ensures) ∙ c .if1 .left
 
 add-next : tie.Need-add-next
-add-next c = search needs
-
-passes-length-requires : tie.Need-passes-length-requires
-passes-length-requires c κs = search needs
-
-returns-3 : tie.Need-returns-3
-returns-3 c =
-    let args = c .before .before .before .before .args in
-    let fits : args .offset + args .count ≤ args .room = omega arith in
-    let long = sym (c .before .passes-length .ensures) ∙ c .if3 .taken in
-    sym (end-past-length (args .room) (args .offset) (args .count) (args .declared) (args .last) fits long)
+add-next c =
+    let args = c .before .before .args in
+    let fits = short-fits (args .room) (args .offset) (args .count) (args .declared) (short c) in
+    omega arith
 
 ends-early-requires : tie.Need-ends-early-requires
 ends-early-requires c κs = search needs
 
-returns-4 : tie.Need-returns-4
-returns-4 c =
-    let length = c .before .before in
-    let args = length .before .before .before .before .args in
-    let fits : args .offset + args .count ≤ args .room = omega arith in
-    let within = sym (length .before .passes-length .ensures) ∙ length .if3 .left in
-    let early = sym (c .before .ends-early .ensures) ∙ c .if4 .taken in
-    sym (end-early (args .room) (args .offset) (args .count) (args .declared) (args .last) fits within early)
+returns-2 : tie.Need-returns-2
+unfolding judgeEnd
+returns-2 c = let early = sym (c .before .ends-early .ensures) ∙ c .if2 .taken in rw (short (c .before .before), early)
 
-returns-5 : tie.Need-returns-5
-returns-5 c =
-    let length = c .before .before in
-    let args = length .before .before .before .before .args in
-    let fits : args .offset + args .count ≤ args .room = omega arith in
-    let within = sym (length .before .passes-length .ensures) ∙ length .if3 .left in
-    let late = sym (c .before .ends-early .ensures) ∙ c .if4 .left in
-    sym (end-good (args .room) (args .offset) (args .count) (args .declared) (args .last) fits within late)
+returns-3 : tie.Need-returns-3
+unfolding judgeEnd
+returns-3 c = let late = sym (c .before .ends-early .ensures) ∙ c .if2 .left in rw (short (c .before .before), late)
 
 pub judge-end-spec : {M : Type 1} → statement M
 judge-end-spec =
     tie.close
-    (tie.spec
-    returns
-    returns-2
-    add-next
-    passes-length-requires
-    returns-3
-    ends-early-requires
-    returns-4
-    returns-5)
+    (tie.spec is-long-requires returns add-next ends-early-requires returns-2 returns-3)

@@ -12,7 +12,7 @@ use Rattle.packet.specs.Packet.{packetItems}
 use Rattle.transfer.specs.Fragment.{binaryKind, locationKind, valueIn}
 use Rattle.transfer.specs.Transfer.{locationOf, judgeEnd, judgeForm}
 use Rattle.transfer.specs.declared.state.Declared.{Declared}
-use Rattle.transfer.proofs.JudgeLaws.{form-other, form-gap, form-complete, form-next}
+use Rattle.transfer.proofs.JudgeLaws.{form-other, form-gap, form-next}
 use borrow.Author.Needs.{needs}
 use Rattle.transfer.proofs.judging.judge_form.Statement.{statement}
 use Rattle.transfer.proofs.judging.judge_form.Tie as tie
@@ -53,22 +53,17 @@ returns-2 c =
     let other = sym (tested (c .before)) ∙ not-true _ (c .if1 .taken) in
     sym (ap (judgeForm (args .transfer) (args .room) (items form)) (given .1) ∙ form-other (args .transfer) (args .room) (items form) (given .0 .0) (given .0 .1 .0) (given .0 .1 .1 .0) other)
 
+goes-on-requires : tie.Need-goes-on-requires
+goes-on-requires c κs = search needs
+
 returns-3 : tie.Need-returns-3
 returns-3 c =
     let test = c .before .before in
     let form = test .before .before .before .before in
     let args = form .before .before .before .args in
     let given = form .form .given in
-    sym (ap (judgeForm (args .transfer) (args .room) (items form)) (given .1) ∙ form-gap (args .transfer) (args .room) (items form) (given .0 .0) (given .0 .1 .0) (given .0 .1 .1 .0) (ours test) (c .if2 .taken))
-
-returns-4 : tie.Need-returns-4
-returns-4 c =
-    let next = c .before in
-    let test = next .before .before in
-    let form = test .before .before .before .before in
-    let args = form .before .before .before .args in
-    let given = form .form .given in
-    sym (ap (judgeForm (args .transfer) (args .room) (items form)) (given .1) ∙ form-complete (args .transfer) (args .room) (items form) (given .0 .0) (given .0 .1 .0) (given .0 .1 .1 .0) (ours test) (next .if2 .left) (c .if3 .taken))
+    let gap = sym (c .before .goes-on .ensures) ∙ not-true _ (c .if2 .taken) in
+    sym (ap (judgeForm (args .transfer) (args .room) (items form)) (given .1) ∙ form-gap (args .transfer) (args .room) (items form) (given .0 .0) (given .0 .1 .0) (given .0 .1 .1 .0) (ours test) gap)
 
 value-requires-2 : tie.Need-value-requires-2
 value-requires-2 c κs = search needs
@@ -79,19 +74,20 @@ known-length-requires c κs = search needs
 judge-end-requires : tie.Need-judge-end-requires
 judge-end-requires c κs = search needs
 
-returns-5 : tie.Need-returns-5
-returns-5 c =
+returns-4 : tie.Need-returns-4
+returns-4 c =
     let known = c .before in
     let bytes = known .before in
-    let next = bytes .before .before in
-    let test = next .before .before in
+    let going = bytes .before in
+    let test = going .before .before in
     let form = test .before .before .before .before in
     let args = form .before .before .before .args in
     let given = form .form .given in
+    let next = sym (going .before .goes-on .ensures) ∙ not-false _ (going .if2 .left) in
     c .judge-end .ensures
     ∙ ap (λ (value : List ℕ). judgeEnd (args .room) (given .0 .0) (length value) (known .known-length .result) (given .0 .1 .1 .0)) (bytes .value2 .ensures)
     ∙ ap (λ (declared : Declared). judgeEnd (args .room) (given .0 .0) (length (valueIn binaryKind (items form))) declared (given .0 .1 .1 .0)) (known .known-length .ensures)
-    ∙ sym (ap (judgeForm (args .transfer) (args .room) (items form)) (given .1) ∙ form-next (args .transfer) (args .room) (items form) (given .0 .0) (given .0 .1 .0) (given .0 .1 .1 .0) (ours test) (next .if2 .left) (bytes .before .if3 .left))
+    ∙ sym (ap (judgeForm (args .transfer) (args .room) (items form)) (given .1) ∙ form-next (args .transfer) (args .room) (items form) (given .0 .0) (given .0 .1 .0) (given .0 .1 .1 .0) (ours test) next)
 
 pub judge-form-spec : {M : Type 1} → statement M
 judge-form-spec =
@@ -103,9 +99,9 @@ judge-form-spec =
     value-requires
     is-of-requires
     returns-2
+    goes-on-requires
     returns-3
-    returns-4
     value-requires-2
     known-length-requires
     judge-end-requires
-    returns-5)
+    returns-4)

@@ -9,9 +9,7 @@ use native.Mathlib.Omega.{arith}
 use Rattle.rows.specs.Entries as shown
 use Rattle.rows.specs.Entries.{freshEntry, boardShowing}
 use Rattle.rows.specs.Rows.{boardOf}
-use Rattle.rows.specs.declared.Board.{Board}
-use Rattle.board.specs.WatchList.{Good, watchNames, asWatched}
-use Rattle.board.specs.declared.list.Listed.the-variants.{Accepted}
+use Rattle.board.specs.WatchList.{watchNames, asWatched}
 use Rattle.board.specs.declared.list.Watched.{Watched}
 use Rattle.board.proofs.WatchLaws as watch-laws
 use Rattle.rows.proofs.EntryLaws.{fresh-showing}
@@ -24,8 +22,7 @@ use Rattle.ledger.specs.Answers as answers
 use Rattle.ledger.specs.Answers.{Call}
 use Rattle.ledger.specs.Calls.{step, given, after}
 use Rattle.ledger.specs.Shown.{asCounts, asEntry, Left, asLeft}
-use Rattle.ledger.proofs.FrameAgreement.{Shows}
-use Rattle.ledger.proofs.StepAgreement.{Agrees, Gives, piece-agrees, tick-agrees}
+use Rattle.ledger.proofs.StepAgreement.{Agrees, piece-agrees, tick-agrees}
 use Rattle.ledger.proofs.Chain.{Begins, Chain, done, receives, ticks, received}
 
 -- what the ledger says of a list of calls

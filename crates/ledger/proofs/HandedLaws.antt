@@ -1,6 +1,6 @@
 -- What a call handed out stands at the start of the buffers, as long as the answer says: an acknowledgement has at most the nine bytes
 -- that a reply buffer has, and a payload at most the 383 of a packet buffer.
-use mathlib.Core.Path.{_≡_, refl, sym, ap, ap₂, _∙_}
+use mathlib.Core.Path.{_≡_, refl, ap, ap₂}
 use mathlib.Core.Bool.{Bool, true, false, cond, _||_}
 use mathlib.Core.List.{List, [], _∷_, _++_, map}
 use mathlib.Core.Option.{Option, some, none}
@@ -18,13 +18,13 @@ use Rattle.link.specs.Closing.{acknowledgement}
 use Rattle.link.proofs.ClosingLaws.{acknowledgement-fits}
 use Rattle.ledger.specs.Ledger.{Ledger}
 use Rattle.ledger.specs.Frames as frames
-use Rattle.ledger.specs.Frames.{Frame, Taken, taken, byType, frameOf}
+use Rattle.ledger.specs.Frames.{Frame, taken, byType, frameOf}
 use Rattle.ledger.specs.Answers as answers
-use Rattle.ledger.specs.Answers.{Call, Given}
+use Rattle.ledger.specs.Answers.{Call}
 use Rattle.ledger.specs.Calls as calls
 use Rattle.ledger.specs.Calls.{Effect, answerTo, repeated, closed, effectOf, withRun, pieceStep, shortStep, step, given}
 use Rattle.ledger.specs.History.{Handed, handedBy, handedIn, handedOut}
-use Rattle.ledger.specs.Shown.{asAnswer, Left, asLeft, handedAs, handedLeft, allHanded}
+use Rattle.ledger.specs.Shown.{asAnswer, asLeft, handedAs, handedLeft, allHanded}
 
 -- a good data frame has at most 383 bytes of payload
 payload-bounded : (run : List ℕ) (sequence : ℕ) (payload : List ℕ) → frameOf run ≡ frames.good sequence payload → length payload ≤ 383

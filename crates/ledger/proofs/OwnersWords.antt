@@ -1,8 +1,9 @@
--- Demand 3 in the owner's words: cuts do not matter; a row is current exactly when the last accepted update of its name closed fewer
--- than 30 ticks ago; a data frame that is repeated at once changes no row.
+-- Demand 3 in the owner's words, each read off the ledger, since display and ledger agree after every list: cuts do not matter;
+-- a row is current exactly when the last accepted update of its name closed fewer than 30 ticks ago; a data frame that is
+-- repeated at once changes no row.
 use mathlib.Core.Path.{_≡_, refl, sym, ap, ap₂, _∙_}
-use mathlib.Core.Bool.{Bool, true, false, cond, not, _&&_, _||_}
-use mathlib.Core.List.{List, [], _∷_, _++_, map}
+use mathlib.Core.Bool.{Bool, true, false, cond, not, _||_}
+use mathlib.Core.List.{List, [], _∷_, map}
 use mathlib.Core.Option.{Option, some, none}
 use Prim.Native.Nat.{ℕ, suc, _<_, _≤_}
 use native.Mathlib.Omega.{arith}
@@ -21,14 +22,14 @@ use Rattle.board.specs.WatchList.{distinct, watchNames}
 use Rattle.board.proofs.EntryLaws.{list-good}
 use Rattle.board.proofs.WatchLaws.{both-left, both-right}
 use Rattle.display.specs.declared.Display.{Display}
-use Rattle.ledger.specs.Ledger.{Update, Entry, Ledger, unheard, nameOf, start, updated, older, olderEntry, Row, never, current, silent, rowOf}
+use Rattle.ledger.specs.Ledger.{Update, Entry, Ledger, unheard, nameOf, start, updated, current, silent, rowOf}
 use Rattle.ledger.specs.Frames as frames
 use Rattle.ledger.specs.Frames.{Frame, Taken, taken, frameOf}
 use Rattle.ledger.specs.Answers as answers
 use Rattle.ledger.specs.Calls as calls
 use Rattle.ledger.specs.Answers.{Call, Given}
-use Rattle.ledger.specs.Calls.{Effect, repeated, closed, effectOf, withRun, pieceStep, shortStep, step, given, after}
-use Rattle.ledger.specs.History.{Event, history, Handed, handedOut, afterHistory, handedInHistory, byReading, byAnswer, byGiven, lastUpdate}
+use Rattle.ledger.specs.Calls.{repeated, closed, withRun, pieceStep, shortStep, step, given, after}
+use Rattle.ledger.specs.History.{Event, history, handedOut, afterHistory, handedInHistory, byReading, byGiven, lastUpdate}
 use Rattle.ledger.specs.Shown.{asCounts, asState, asEntry, Left, allHanded}
 use Rattle.ledger.proofs.Chain.{Begins, Chain}
 use Rattle.ledger.proofs.EveryList.{IsLedgers, every-list, fresh-named}

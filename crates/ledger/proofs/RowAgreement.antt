@@ -1,4 +1,5 @@
--- The board's rows show what the ledger holds of each name, after an update and after a tick as before; the names never change.
+-- The board's rows show what the ledger holds of each name, after an update and after a tick as before: both go name by name,
+-- and neither changes a name.
 use mathlib.Core.Path.{_≡_, refl, ap, ap₂}
 use mathlib.Core.Bool.{Bool, true, false, cond}
 use mathlib.Core.List.{List, [], _∷_, _++_, map}

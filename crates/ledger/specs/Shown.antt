@@ -1,6 +1,5 @@
 -- How the code says what the ledger says: each count modulo 65,536, the rows as they are shown, the answers as enums.
 use Prim.Native.Nat.{ℕ, _%_}
-use mathlib.Core.Path.{_≡_}
 use mathlib.Core.List.{List, [], _∷_, _++_, map}
 use mathlib.Core.Option.{Option, some, none}
 use lib.ListN.{length, take}

@@ -12,9 +12,9 @@ use borrow.Author.Tests.{le-leb, leb-true}
 use Rattle.packet.specs.Items.{Item, inFront, eofKind, emptyIfEof, itemsOf, countOf}
 use Rattle.packet.specs.Answers.{placed, past, headIn, findIn, behindIn}
 use Rattle.packet.specs.Walk.{Countable, beginsWithItem, withItem, tallyOf}
-use Rattle.packet.specs.declared.Found.the-variants.{At, Nothing}
-use Rattle.packet.specs.declared.Tally.{Tally}
-use Rattle.packet.specs.declared.Tally.the-variants.{Items, Broken}
+use Rattle.packet.specs.declared.items.Found.the-variants.{At, Nothing}
+use Rattle.packet.specs.declared.items.Tally.{Tally}
+use Rattle.packet.specs.declared.items.Tally.the-variants.{Items, Broken}
 use Rattle.packet.proofs.ItemLaws.{good-end, good-cut, good-rule, items-few, count-few}
 
 -- the item that bytes begin with

@@ -13,7 +13,7 @@ use Rattle.slices.proofs.PutLaws.{put-append}
 use Rattle.packet.specs.Names.{between, isLetter, allNameBytes, validName, validLocation}
 use Rattle.packet.specs.Packet.{withHead}
 use Rattle.packet.specs.Requests.{Output, wrote, refusedBy, fitted, answerOf, bytesOf, Writes}
-use Rattle.packet.specs.declared.Written.the-variants.{Length, Refused}
+use Rattle.packet.specs.declared.requests.Written.the-variants.{Length, Refused}
 use Rattle.packet.proofs.WalkLaws.{both}
 
 -- a refusal answers its number and changes nothing

@@ -1,6 +1,6 @@
 -- A fresh board, a tick and an update leave a board that shows the entries which they leave: each goes row by row, and no unused
 -- row is current or has a name that is looked for.
-use mathlib.Core.Path.{_≡_, refl, ap, ap₂, _∙_}
+use mathlib.Core.Path.{_≡_, refl, ap, ap₂}
 use mathlib.Core.Bool.{Bool, true, false, cond}
 use mathlib.Core.List.{List, [], _∷_, _++_, map}
 use mathlib.Core.Option.{some}

@@ -119,8 +119,8 @@ fn has_name(row: Row, name: &[u8]) -> bool
     ensures { λ r. ⌜ r ≡ sameBytes (rowName row) (now (name .entry)) ⌝ }
 {
     let bytes = row.name;
-    let length = name_length(row);
-    slices::same(&bytes[..length], name)
+    let own = slices::first(&bytes, row.length);
+    slices::same(own, name)
 }
 
 // How many bytes the name of the row has.

@@ -15,12 +15,12 @@ use Rattle.packet.specs.Packet.{packetOf, packetItems}
 use Rattle.transfer.specs.Fragment.{binaryKind, valueIn}
 use Rattle.transfer.specs.Transfer.{freshTransfer, refusedWith, startOf, outcomeBy, fileBy, verdictFor, Takes}
 use Rattle.transfer.specs.Calls.{Held, acceptedBytes, started, left, Calls, none, call}
-use Rattle.transfer.specs.declared.Answer.the-variants as answer
-use Rattle.transfer.specs.declared.Declared.{Declared}
-use Rattle.transfer.specs.declared.Declared.the-variants.{Known}
-use Rattle.transfer.specs.declared.Outcome.{Outcome}
-use Rattle.transfer.specs.declared.Verdict.{Verdict}
-use Rattle.transfer.specs.declared.Verdict.the-variants.{Accepted, Refused}
+use Rattle.transfer.specs.declared.taking.Answer.the-variants as answer
+use Rattle.transfer.specs.declared.state.Declared.{Declared}
+use Rattle.transfer.specs.declared.state.Declared.the-variants.{Known}
+use Rattle.transfer.specs.declared.taking.Outcome.{Outcome}
+use Rattle.transfer.specs.declared.judging.Verdict.{Verdict}
+use Rattle.transfer.specs.declared.judging.Verdict.the-variants.{Accepted, Refused}
 use Rattle.transfer.proofs.AcceptedLaws.{AcceptedBy, accepted, last-reaches}
 
 -- what holds between the calls: the joined fragments lie at the start of the first buffer, next is their number, and a
@@ -40,10 +40,15 @@ module _ (first : List ℕ) (held : Held) (holds : Holds first held) (bytes : Li
   abbrev leftBy : Verdict → Held
   leftBy v = left held bytes (fileBy (held .file) value v) (outcomeBy (held .transfer) v)
 
+  -- a refused packet adds nothing to what is joined
+  same-joined : (number : ℕ) → leftBy (Refused number) .joined ≡ held .joined
+  unfolding outcomeBy acceptedBytes
+  same-joined number = append-nil (held .joined)
+
   refused-holds : (number : ℕ) → Holds first (leftBy (Refused number))
-  unfolding outcomeBy fileBy acceptedBytes
+  unfolding outcomeBy fileBy
   refused-holds number =
-      rw (append-nil (held .joined))
+      rw (same-joined number)
       record { laid = holds .laid; counted = holds .counted; fits = holds .fits; whole = holds .whole }
 
   accepted-holds : (offset next : ℕ) (declared : Declared) (last : Bool) → verdictFor (held .transfer) bytes (held .file) ≡ Accepted offset next declared last → Holds first (leftBy (Accepted offset next declared last))

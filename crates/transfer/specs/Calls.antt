@@ -4,10 +4,10 @@ use mathlib.Core.List.{List, [], _∷_, _++_}
 use Rattle.packet.specs.Packet.{packetItems}
 use Rattle.transfer.specs.Fragment.{binaryKind, valueIn}
 use Rattle.transfer.specs.Transfer.{startOf, Takes}
-use Rattle.transfer.specs.declared.Transfer.{Transfer}
-use Rattle.transfer.specs.declared.Answer.{Answer}
-use Rattle.transfer.specs.declared.Answer.the-variants.{Accepted, Refused}
-use Rattle.transfer.specs.declared.Outcome.{Outcome}
+use Rattle.transfer.specs.declared.state.Transfer.{Transfer}
+use Rattle.transfer.specs.declared.taking.Answer.{Answer}
+use Rattle.transfer.specs.declared.taking.Answer.the-variants.{Accepted, Refused}
+use Rattle.transfer.specs.declared.taking.Outcome.{Outcome}
 
 -- the bytes of the packet's fragment where it was accepted: of a refused one none
 unfoldable pub acceptedBytes : List ℕ → Answer → List ℕ

@@ -8,6 +8,7 @@ use Prim.Native.Nat.{ℕ, zero, suc, _-_, _<_}
 use native.Mathlib.Omega.{arith}
 use lib.IntN.{ℤ}
 use lib.ListN.{length, take, replicate}
+use Rattle.slices.proofs.TestLaws.{both}
 use Rattle.rows.specs.Names.{placeOf, isSome, isIn}
 use Rattle.refusals.specs.Numbers.{notWatched}
 use Rattle.rows.specs.Rows.{rowCount, rowNames, watched, freshRow, boardOf, updateBoard}
@@ -18,7 +19,7 @@ use Rattle.rows.proofs.EntryLaws.{entries-update, watched-update}
 use Rattle.board.specs.WatchList.{Good, mayJoin, sizeOf, isWhole, namesFrom, watchNames}
 use Rattle.board.specs.Reading.{Verdict, refused, endMark, update, taskOf, verdictOf, ifWatched, readingOf, refusedWith, updated, applied, readBoard, entriesAfter}
 use Rattle.board.specs.declared.reading.Answer.the-variants.{Updated, EndMark}
-use Rattle.board.proofs.WatchLaws.{both-right, Fits, good-fits, fresh-name, good-none, good-more}
+use Rattle.board.proofs.WatchLaws.{Fits, good-fits, fresh-name, good-none, good-more}
 use Rattle.packet.specs.Packet.{packetOf}
 
 fresh-rows : (names : List (List ℕ)) (k : ℕ) → Fits names → rowEntries (map freshRow (names ++ replicate k [])) ≡ map freshEntry names
@@ -45,7 +46,7 @@ names-good zero names (tag ∷ high ∷ low ∷ rest) out o e =
   where
     cases : (t : Bool) → (isWhole tag (sizeOf high low) rest && mayJoin names (take (sizeOf high low) rest)) ≡ t → (Good (names ++ (take (sizeOf high low) rest ∷ [])) → namesFrom (sizeOf high low) (names ++ (take (sizeOf high low) rest ∷ [])) rest ≡ some out → Good out) → cond t (namesFrom (sizeOf high low) (names ++ (take (sizeOf high low) rest ∷ [])) rest) none ≡ some out → Good out
     cases true h below e =
-        below (good-more names (take (sizeOf high low) rest) o (both-right (isWhole tag (sizeOf high low) rest) (mayJoin names (take (sizeOf high low) rest)) h)) e
+        below (good-more names (take (sizeOf high low) rest) o (both (isWhole tag (sizeOf high low) rest) (mayJoin names (take (sizeOf high low) rest)) h .second)) e
     cases false h below e = let z : _≡_ {A = ℕ} 0 1 = cc in absurd (omega arith)
 names-good (suc skip) names [] out o e = let z : _≡_ {A = ℕ} 0 1 = cc in absurd (omega arith)
 names-good (suc skip) names (byte ∷ rest) out o e = names-good skip names rest out o e

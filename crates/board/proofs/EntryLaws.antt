@@ -9,6 +9,7 @@ use native.Mathlib.Omega.{arith}
 use lib.IntN.{ℤ}
 use lib.ListN.{length, take}
 use Rattle.refusals.specs.Numbers.{notWatched}
+use Rattle.slices.proofs.TestLaws.{both}
 use Rattle.packet.specs.Packet.{packetOf}
 use Rattle.rows.specs.Names.{placeOf, isSome, isIn}
 use Rattle.rows.specs.Rows.{rowCount, rowNames, watched, updateBoard}
@@ -19,7 +20,7 @@ use Rattle.rows.proofs.EntryLaws.{Named, showing-names}
 use Rattle.board.specs.WatchList.{Good, mayJoin, sizeOf, isWhole, namesFrom, watchNames}
 use Rattle.board.specs.Reading.{Verdict, refused, endMark, update, taskOf, verdictOf, ifWatched, readingOf, refusedWith, updated, applied, readBoard}
 use Rattle.board.specs.declared.reading.Answer.the-variants.{Updated, EndMark}
-use Rattle.board.proofs.WatchLaws.{both-right, Fits, none-empty, fresh-name, good-none, good-more}
+use Rattle.board.proofs.WatchLaws.{Fits, none-empty, fresh-name, good-none, good-more}
 
 -- the rows of a board that shows entries have their names
 pub rows-named : (es : List Entry) → Fits (map entryName es) → Named es
@@ -43,7 +44,7 @@ names-good zero names (tag ∷ high ∷ low ∷ rest) out o e =
   where
     cases : (t : Bool) → (isWhole tag (sizeOf high low) rest && mayJoin names (take (sizeOf high low) rest)) ≡ t → (Good (names ++ (take (sizeOf high low) rest ∷ [])) → namesFrom (sizeOf high low) (names ++ (take (sizeOf high low) rest ∷ [])) rest ≡ some out → Good out) → cond t (namesFrom (sizeOf high low) (names ++ (take (sizeOf high low) rest ∷ [])) rest) none ≡ some out → Good out
     cases true h below e =
-        below (good-more names (take (sizeOf high low) rest) o (both-right (isWhole tag (sizeOf high low) rest) (mayJoin names (take (sizeOf high low) rest)) h)) e
+        below (good-more names (take (sizeOf high low) rest) o (both (isWhole tag (sizeOf high low) rest) (mayJoin names (take (sizeOf high low) rest)) h .second)) e
     cases false h below e = let z : _≡_ {A = ℕ} 0 1 = cc in absurd (omega arith)
 names-good (suc skip) names [] out o e = let z : _≡_ {A = ℕ} 0 1 = cc in absurd (omega arith)
 names-good (suc skip) names (byte ∷ rest) out o e = names-good skip names rest out o e

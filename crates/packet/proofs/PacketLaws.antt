@@ -9,6 +9,7 @@ use lib.Dec.{leb, eqb}
 use lib.ListN.{length, getD, drop}
 use borrow.Author.Tests.{leb-true}
 use Rattle.refusals.specs.Numbers.{noDataPacket}
+use Rattle.slices.proofs.TestLaws.{both}
 use Rattle.packet.specs.Items.{Item, itemsOf, countOf}
 use Rattle.packet.specs.Packet.{refused, isData, withItems, packetOf, judgedItems, packetItems}
 use Rattle.packet.specs.Answers.{readingOf, findIn, behindIn}
@@ -17,7 +18,6 @@ use Rattle.packet.specs.declared.items.Found.{Found}
 use Rattle.packet.specs.declared.items.Found.the-variants.{Nothing}
 use Rattle.packet.specs.declared.reading.Reading.the-variants.{Packet, Refused}
 use Rattle.packet.specs.declared.items.Tally.the-variants.{Items, Broken}
-use Rattle.packet.proofs.WalkLaws.{both}
 
 -- a data packet has its first four bytes
 pub data-length : (bytes : List ℕ) → isData bytes ≡ true → 4 ≤ length bytes

@@ -1,6 +1,6 @@
 -- What an accepted fragment has passed: each test that could have refused it, read back from the verdict.
 use mathlib.Core.Path.{_≡_, refl, sym, ap, _∙_}
-use mathlib.Core.Bool.{Bool, true, false, cond, not, _&&_, _||_}
+use mathlib.Core.Bool.{Bool, true, false, cond, not}
 use mathlib.Core.List.{List}
 use Prim.Native.Nat.{ℕ, _+_, _≤_}
 use native.Mathlib.Omega.{arith}
@@ -8,6 +8,7 @@ use lib.Dec.{eqb, ltb}
 use lib.ListN.{length}
 use borrow.Author.Tests.{eqb-true, ltb-false, not-true}
 use Rattle.slices.specs.Same.{sameBytes}
+use Rattle.slices.proofs.TestLaws.{both, neither}
 use Rattle.packet.specs.Items.{Item}
 use Rattle.packet.specs.Packet.{Judged, packet, refused, judgedItems}
 use Rattle.transfer.specs.Fragment.{binaryKind, locationKind, valueIn, formOf}
@@ -29,18 +30,6 @@ pub record AcceptedBy (transfer : Transfer) (room count offset next : ℕ) (decl
   pub in-room : next ≤ room
   pub in-length : passesLength declared next room ≡ false
   pub not-early : endsEarly declared last next ≡ false
-
-record Both (t u s : Bool) : Type 0 where
-  first : t ≡ s
-  second : u ≡ s
-
-both : (t u : Bool) → (t && u) ≡ true → Both t u true
-both true u h = record { first = refl; second = h }
-both false u h = let z : _≡_ {A = ℕ} 0 1 = cc in absurd (omega arith)
-
-neither : (t u : Bool) → (t || u) ≡ false → Both t u false
-neither true u h = let z : _≡_ {A = ℕ} 0 1 = cc in absurd (omega arith)
-neither false u h = record { first = refl; second = h }
 
 -- a fragment that is not too long ends within the buffer
 pub short-fits : (room offset count : ℕ) (declared : Declared) → isLong room offset count declared ≡ false → offset + count ≤ room

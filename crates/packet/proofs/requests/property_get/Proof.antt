@@ -9,7 +9,8 @@ use Rattle.packet.specs.Items.{itemBytes, itemsBytes}
 use Rattle.packet.specs.Packet.{packetBytes}
 use Rattle.packet.specs.Names.{validName}
 use Rattle.packet.specs.Requests.{propertyGet, getPacket, nameItem}
-use Rattle.packet.proofs.WriteLaws.{writes-nothing, name-short}
+use Rattle.packet.proofs.NameLaws.{name-size}
+use Rattle.packet.proofs.WriteLaws.{writes-nothing}
 use Rattle.packet.proofs.requests.property_get.Statement.{statement}
 use Rattle.packet.proofs.requests.property_get.Tie as tie
 
@@ -32,7 +33,7 @@ slice-aggregate-write-request c = search needs
 write-request-requires : tie.Need-write-request-requires
 write-request-requires c κs =
     let test = c .before .before in
-    let short = name-short (test .before .before .before .before .args .name .now) (good test) in
+    let size = name-size (test .before .before .before .before .args .name .now) (good test) in
     omega arith
 
 same-length : tie.Need-same-length

@@ -7,7 +7,8 @@ use borrow.Author.Tests.{not-true, not-false}
 use lib.ListN.{length}
 use Rattle.packet.specs.Names.{validLocation}
 use Rattle.packet.specs.Requests.{locatedRequest}
-use Rattle.packet.proofs.WriteLaws.{writes-nothing, location-short}
+use Rattle.packet.proofs.NameLaws.{location-size}
+use Rattle.packet.proofs.WriteLaws.{writes-nothing}
 use Rattle.packet.proofs.requests.write_located.Statement.{statement}
 use Rattle.packet.proofs.requests.write_located.Tie as tie
 
@@ -27,7 +28,7 @@ good c = sym (c .before .valid-location .ensures) ∙ not-false _ (c .if1 .left)
 write-request-requires : tie.Need-write-request-requires
 write-request-requires c κs =
     let test = c .before in
-    let short = location-short (test .before .before .before .before .before .args .location .now) (good test) in
+    let size = location-size (test .before .before .before .before .before .args .location .now) (good test) in
     omega arith
 
 same-length : tie.Need-same-length

@@ -13,7 +13,7 @@ const BAD_NAMES: [&str; 5] = ["abcdefghijklmnopqrstuvwxyz12", "", "1h", "h 1", "
 
 /// The module at the other end: the names that it tells of, and the sequence that it sent last.
 pub struct Sender {
-    names: Vec<&'static str>,
+    names: Vec<Vec<u8>>,
     sequence: u8,
 }
 
@@ -67,16 +67,17 @@ pub fn field(history: &mut Vec<u8>, tag: u8, value: &[u8]) {
 }
 
 /// Up to seventeen names, each once.
-fn watched(random: &mut Random) -> Vec<&'static str> {
+fn watched(random: &mut Random) -> Vec<Vec<u8>> {
     let count = random.one_of(&[0, 1, 1, 2, 2, 2, 3, 3, 3, 4, 5, 5, 7, 9, 16, 16, 17]);
     let first = random.below(NAMES.len());
-    NAMES.iter().cycle().skip(first).take(count).copied().collect()
+    let names = NAMES.iter().cycle().skip(first).take(count);
+    names.map(|name| name.as_bytes().to_vec()).collect()
 }
 
-fn watch_list(random: &mut Random, names: &[&str]) -> Vec<u8> {
+fn watch_list(random: &mut Random, names: &[Vec<u8>]) -> Vec<u8> {
     let mut history = Vec::new();
     for name in names {
-        field(&mut history, 1, name.as_bytes());
+        field(&mut history, 1, name);
     }
     if random.below(40) == 0 {
         field(&mut history, 1, random.one_of(&NAMES).as_bytes());
@@ -111,7 +112,7 @@ fn play(random: &mut Random, history: &mut Vec<u8>, stream: &[u8]) {
 }
 
 impl Sender {
-    pub fn new(random: &mut Random, names: Vec<&'static str>) -> Sender {
+    pub fn new(random: &mut Random, names: Vec<Vec<u8>>) -> Sender {
         Sender {
             names,
             sequence: random.one_of(&[0, 0x70, 0x7b, 0xef, 0xf8, 0xfe]),
@@ -165,10 +166,10 @@ impl Sender {
             item(&mut packet, 0x07, &[random.byte()]);
         }
         let name = match self.names.as_slice() {
-            [] => NAMES[0],
-            names => random.one_of(names),
+            [] => NAMES[0].as_bytes(),
+            names => &names[random.below(names.len())],
         };
-        item(&mut packet, 0x01, name.as_bytes());
+        item(&mut packet, 0x01, name);
         if random.below(6) == 0 {
             item(&mut packet, 0x0f, &[random.byte() & 1]);
         } else {

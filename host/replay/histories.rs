@@ -22,8 +22,14 @@ pub fn history(random: &mut Random) -> Vec<u8> {
     let mut history = watch_list(random, &names);
     let mut sender = Sender::new(random, names);
     let parts = random.below(40);
-    let stream: Vec<u8> = (0..parts).flat_map(|_| sender.part(random)).collect();
-    play(random, &mut history, &stream);
+    let mut stream: Vec<u8> = (0..parts).flat_map(|_| sender.part(random)).collect();
+    if random.below(40) == 0 {
+        // All in one field, near the greatest length.
+        stream.resize(4092 + random.below(10), 0);
+        field(&mut history, 2, &stream);
+    } else {
+        play(random, &mut history, &stream);
+    }
     if random.below(10) == 0 {
         damage(random, &mut history);
     }

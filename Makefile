@@ -138,7 +138,7 @@ soak: $(OUT)/replay_test $(REPLAY)
 # second time. The C and Rust code around them has counters that the fuzzer follows.
 
 FUZZ := $(OUT)/fuzz
-FUZZ_CFLAGS := -std=c99 -O2 -g $(WARNINGS) -Iinclude -Ihost/bench
+FUZZ_CFLAGS := -std=c99 -O2 -g $(WARNINGS) -Iinclude -Ihost/bench -Ihost/example
 SANITIZERS := -fsanitize=fuzzer,address,undefined -fno-sanitize-recover=undefined
 COUNTERS := level=3 inline-8bit-counters pc-table trace-compares
 FUZZ_RUSTFLAGS := $(RUSTFLAGS) -C panic=abort -C codegen-units=1 --crate-type staticlib \
@@ -165,8 +165,8 @@ $(FUZZ)/%.s: $(FUZZ)/%.o host/fuzz/instructions.awk
 $(FUZZ)/coverage.o: host/fuzz/coverage.c $(HEADERS) | $(FUZZ)
 	$(CLANG) $(FUZZ_CFLAGS) -c -o $@ $<
 
-$(FUZZ)/archive: host/fuzz/archive.c $(PLAIN) $(HEADERS) $(addprefix $(FUZZ)/,coverage.o archive.s \
-		archive.o)
+$(FUZZ)/archive: host/fuzz/archive.c host/example/collector.c $(PLAIN) $(HEADERS) \
+		$(addprefix $(FUZZ)/,coverage.o archive.s archive.o)
 	$(CLANG) $(FUZZ_CFLAGS) $(SANITIZERS) -o $@ $(INPUTS)
 
 $(FUZZ)/libreplay.a: host/fuzz/replay.rs $(wildcard host/fuzz/*.rs host/reference/*.rs) \

@@ -1,12 +1,13 @@
 /*
- * Fuzzes the three calls of arznavik.h. An input is bytes and, at its end, four that say how they
- * are used: the call, the room of the output in two, and more in the last. Each answer and each
- * byte lent is held to the plain C of the benchmark.
+ * Fuzzes the three calls of arznavik.h, and the example's collector. An input is bytes and, at its
+ * end, four that say how they are used: the call, the room of the output in two, and more in the
+ * last. Each answer and each byte lent is held to the plain C of the benchmark.
  */
 #define _DEFAULT_SOURCE
 
 #include "arznavik.h"
 
+#include "collector.h"
 #include "coverage.h"
 #include "plain.h"
 
@@ -21,6 +22,8 @@
 #define PAGE 4096
 #define MEMORY PAGE
 #define LENGTH_MAX 2048
+/* Pairs that may stand before the bytes of a line: more than any content has bytes. */
+#define PAIRS_MAX 400
 
 struct memory {
     uint8_t *start;
@@ -166,6 +169,42 @@ static void fuzz_sealed(const uint8_t *bytes, size_t length, size_t room, uint8_
     fuzz_check(frame, arznavik_length(report), room, damage & 1);
 }
 
+/* A flag and escaped bytes before the bytes of an input, so that long runs are often met. */
+static size_t begin_line(uint8_t *line, size_t pairs)
+{
+    size_t length = 0;
+    line[length++] = ARZNAVIK_FLAG;
+    for (size_t i = 0; i < pairs; i++) {
+        line[length++] = ARZNAVIK_ESCAPE;
+        line[length++] = 0x5e;
+    }
+    return length;
+}
+
+/* A frame that the collector cut is refused or taken as the whole run between its flags. */
+static void fuzz_line(const uint8_t *bytes, size_t length, size_t pairs)
+{
+    static uint8_t line[1 + 2 * PAIRS_MAX + LENGTH_MAX];
+    uint8_t payload[ARZNAVIK_PAYLOAD_MAX];
+    size_t start = begin_line(line, pairs);
+    size_t flag = 0;
+    struct collector *collector = malloc(sizeof *collector);
+    expect(collector != NULL, "memory for a collector");
+    memcpy(line + start, bytes, length);
+    collector_start(collector);
+    for (size_t i = 0; i < start + length; i++) {
+        size_t closed = collector_take(collector, line[i]);
+        expect((closed != 0) == (line[i] == ARZNAVIK_FLAG && i > flag + 1), "a frame is closed");
+        if (closed != 0)
+            expect(fuzz_check(collector->frame, closed, ARZNAVIK_PAYLOAD_MAX, 1) ==
+                       plain_frame_check(line + flag, i + 1 - flag, payload, sizeof payload),
+                   "report on a frame that was collected");
+        if (line[i] == ARZNAVIK_FLAG)
+            flag = i;
+    }
+    free(collector);
+}
+
 int LLVMFuzzerInitialize(int *argc, char ***argv)
 {
     (void)argc;
@@ -188,7 +227,7 @@ int LLVMFuzzerTestOneInput(const uint8_t *data, size_t size)
     const uint8_t *control = data + length;
     size_t room = ((size_t)control[1] << 8 | control[2]) % 1024;
     int at_end = control[3] & 1;
-    switch (control[0] % 5) {
+    switch (control[0] % 6) {
     case 0:
         fuzz_crc((uint16_t)(control[1] << 8 | control[2]), data, length, at_end);
         break;
@@ -200,6 +239,9 @@ int LLVMFuzzerTestOneInput(const uint8_t *data, size_t size)
         break;
     case 3:
         fuzz_write(control[1], control[3], data, length, control[2] * 4, at_end);
+        break;
+    case 4:
+        fuzz_line(data, length, room % PAIRS_MAX);
         break;
     default:
         room = frame_length(control[1], control[3], data, length) + control[2] % 4;

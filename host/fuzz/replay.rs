@@ -104,7 +104,8 @@ fn expect_printed(printed: &[u8], expected: &str) {
     }
 }
 
-/// All is read and written at once, then in short parts, then a read or a write fails.
+/// All is read and written at once; then once more, in short parts or until a write or a read
+/// fails.
 fn fuzz(history: &[u8]) {
     let expected = program::output(history);
     let line = |most| Line {
@@ -113,7 +114,9 @@ fn fuzz(history: &[u8]) {
         ..Line::default()
     };
     expect_printed(&run(line(usize::MAX)).printed, &expected);
-    let sum = history.iter().fold(history.len(), |sum, &byte| sum * 31 % 65_521 + usize::from(byte));
+    let sum = history.iter().fold(history.len(), |sum, &byte| {
+        sum * 31 % 65_521 + usize::from(byte)
+    });
     match sum % 3 {
         0 => expect_printed(&run(line(1 + sum % 7)).printed, &expected),
         1 => {
@@ -121,7 +124,10 @@ fn fuzz(history: &[u8]) {
                 writes_left: Some(sum % 16),
                 ..line(usize::MAX)
             });
-            assert!(expected.as_bytes().starts_with(&ended.printed), "a write failed");
+            assert!(
+                expected.as_bytes().starts_with(&ended.printed),
+                "a write failed"
+            );
         }
         _ => {
             let ended = run(Line {
@@ -129,7 +135,10 @@ fn fuzz(history: &[u8]) {
                 ..line(usize::MAX)
             });
             let expected = program::output(&history[..ended.read]);
-            assert!(expected.as_bytes().starts_with(&ended.printed), "a read failed");
+            assert!(
+                expected.as_bytes().starts_with(&ended.printed),
+                "a read failed"
+            );
         }
     }
 }

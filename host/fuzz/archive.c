@@ -37,9 +37,6 @@ static struct memory inputs;
 static struct memory outputs;
 static struct memory payloads;
 
-int LLVMFuzzerInitialize(int *argc, char ***argv);
-int LLVMFuzzerTestOneInput(const uint8_t *data, size_t size);
-
 static void expect(int holds, const char *what)
 {
     if (holds)
@@ -103,7 +100,7 @@ static uint64_t fuzz_check(const uint8_t *frame, size_t length, size_t room, int
 {
     const uint8_t *input = lend_copy(&inputs, frame, length, at_end);
     uint8_t *output = lend(&outputs, room, at_end);
-    uint8_t *payload = malloc(room + 1);
+    uint8_t *payload = malloc(room != 0 ? room : 1);
     expect(payload != NULL, "memory for a payload");
     uint64_t wanted = plain_frame_check(frame, length, payload, room);
     uint64_t report = arznavik_check_frame(input, length, output, room);
@@ -133,7 +130,7 @@ static void fuzz_write(uint8_t type, uint8_t sequence, const uint8_t *payload, s
 {
     const uint8_t *input = lend_copy(&payloads, payload, length, at_end);
     uint8_t *output = lend(&outputs, room, at_end);
-    uint8_t *frame = malloc(room + 1);
+    uint8_t *frame = malloc(room != 0 ? room : 1);
     expect(frame != NULL, "memory for a frame");
     uint64_t wanted = plain_frame_write(type, sequence, payload, length, frame, room);
     uint64_t report = arznavik_write_frame(type, sequence, input, length, output, room);

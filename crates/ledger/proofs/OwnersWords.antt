@@ -20,7 +20,7 @@ use Rattle.board.specs.Reading as reading
 use Rattle.board.specs.Reading.{Verdict}
 use Rattle.board.specs.WatchList.{distinct, watchNames}
 use Rattle.board.proofs.EntryLaws.{list-good}
-use Rattle.board.proofs.WatchLaws.{both-left, both-right}
+use Rattle.slices.proofs.TestLaws.{both}
 use Rattle.display.specs.declared.Display.{Display}
 use Rattle.ledger.specs.Ledger.{Update, Entry, Ledger, unheard, nameOf, start, updated, current, silent, rowOf}
 use Rattle.ledger.specs.Frames as frames
@@ -114,10 +114,10 @@ others-kept name value (e ∷ es) a out = cases (sameBytes (e .name) name) refl 
 update-followed : (name : List ℕ) (value : ℤ) (es : List Entry) → distinct (map nameOf es) ≡ true → updated name value es ≡ map (onUpdate name value) es
 unfolding updated distinct
 update-followed name value [] once = refl
-update-followed name value (e ∷ es) once = cases (sameBytes (e .name) name) refl (update-followed name value es (both-right (not (isIn (e .name) (map nameOf es))) (distinct (map nameOf es)) once))
+update-followed name value (e ∷ es) once = cases (sameBytes (e .name) name) refl (update-followed name value es (both (not (isIn (e .name) (map nameOf es))) (distinct (map nameOf es)) once .second))
   where
     alone : isIn (e .name) (map nameOf es) ≡ false
-    alone = not-true (isIn (e .name) (map nameOf es)) (both-left (not (isIn (e .name) (map nameOf es))) (distinct (map nameOf es)) once)
+    alone = not-true (isIn (e .name) (map nameOf es)) (both (not (isIn (e .name) (map nameOf es))) (distinct (map nameOf es)) once .first)
 
     cases : (t : Bool) → sameBytes (e .name) name ≡ t → updated name value es ≡ map (onUpdate name value) es
         → cond (sameBytes (e .name) name) (record { name = e .name; last = some (record { value = value; ticks = 0 }) } ∷ es) (e ∷ updated name value es)

@@ -1,4 +1,4 @@
-// A transfer of one file: what it is at the start, which file it is of, and what a fragment makes of it.
+// A transfer of one file: how it starts, which file it is of, and what a fragment makes of it.
 ghost use mathlib.Core.Path.{_≡_};
 ghost use Rattle.slices.specs.Same.{sameBytes};
 ghost use Rattle.transfer.specs.Transfer.{freshTransfer, locationOf, goesOn, advanced};

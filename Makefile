@@ -7,6 +7,8 @@
 #   make test           run the host tests, and replay the histories of examples/
 #   make history_text   build the tool between histories and readable texts, target/host/history_text
 #   make soak           compare `replay` with the reference on a million histories
+#   make fuzz           fuzz the library and `replay`, each for FUZZ_SECONDS (60)
+#   make valgrind       run the host tests under valgrind, in about three minutes
 #   make bench          measure speed, stack and code size
 #   make bench-receive  measure the speed of the receiver alone
 #   make measure        measure stack and code size alone
@@ -17,6 +19,9 @@ REPLAY ?= target/bin/replay
 OUT ?= target/host
 RUSTC ?= rustc
 SIZE ?= size
+CLANG ?= clang
+VALGRIND ?= valgrind
+FUZZ_SECONDS ?= 60
 
 WARNINGS := -Wall -Wextra -Wpedantic -Werror
 CFLAGS := -std=c99 -O2 $(WARNINGS) -Iinclude
@@ -36,7 +41,8 @@ RECEIVER ?= target/bin/receive_bench
 # What a rule compiles and links: its prerequisites without the headers.
 INPUTS = $(filter-out %.h,$^)
 
-.PHONY: all run example history_text test soak bench bench-receive measure clean
+.PHONY: all run example history_text test soak fuzz fuzz-packages valgrind bench bench-receive \
+	measure clean
 .DELETE_ON_ERROR:
 
 all: $(ARCHIVE) $(OUT)/display
@@ -127,6 +133,58 @@ test: $(addprefix $(OUT)/,$(TESTS)) $(OUT)/display $(REPLAY)
 
 soak: $(OUT)/replay_test $(REPLAY)
 	$(OUT)/replay_test $(REPLAY) 1000000 $$(date +%s)
+
+# The fuzzers: the library and `replay` as they were compiled, each held to what was written a
+# second time. The C and Rust code around them has counters that the fuzzer follows.
+
+FUZZ := $(OUT)/fuzz
+FUZZ_CFLAGS := -std=c99 -O2 -g $(WARNINGS) -Iinclude -Ihost/bench -Ihost/example
+SANITIZERS := -fsanitize=fuzzer,address,undefined -fno-sanitize-recover=undefined
+COUNTERS := level=3 inline-8bit-counters pc-table trace-compares
+FUZZ_RUSTFLAGS := $(RUSTFLAGS) -C panic=abort -C codegen-units=1 --crate-type staticlib \
+	-C passes=sancov-module $(addprefix -C llvm-args=-sanitizer-coverage-,$(COUNTERS))
+
+fuzz-packages:
+	@host/fuzz/packages.sh $(CLANG)
+
+$(FUZZ): | fuzz-packages
+	mkdir -p $@
+
+$(FUZZ)/archive.o: $(ARCHIVE) | $(FUZZ)
+	ar p $< >$@
+
+# The program's main, read and write under other names, and its own functions visible.
+$(FUZZ)/replay.o: $(REPLAY) | $(FUZZ)
+	objcopy --wildcard --globalize-symbol='*::*' --redefine-sym main=replay_main \
+		--redefine-sym read=replay_read --redefine-sym write=replay_write target/obj/replay.o $@
+
+$(FUZZ)/%.s: $(FUZZ)/%.o host/fuzz/instructions.awk
+	objdump -d --no-show-raw-insn $< | awk -v listing=$(FUZZ)/$*.listing \
+		-f host/fuzz/instructions.awk >$@
+
+$(FUZZ)/coverage.o: host/fuzz/coverage.c $(HEADERS) | $(FUZZ)
+	$(CLANG) $(FUZZ_CFLAGS) -c -o $@ $<
+
+$(FUZZ)/archive: host/fuzz/archive.c host/example/collector.c $(PLAIN) $(HEADERS) \
+		$(addprefix $(FUZZ)/,coverage.o archive.s archive.o)
+	$(CLANG) $(FUZZ_CFLAGS) $(SANITIZERS) -o $@ $(INPUTS)
+
+$(FUZZ)/libreplay.a: host/fuzz/replay.rs $(wildcard host/fuzz/*.rs host/reference/*.rs) \
+		host/replay/histories.rs host/differential/random.rs | $(FUZZ)
+	$(RUSTC) $(FUZZ_RUSTFLAGS) -o $@ $<
+
+$(FUZZ)/replay: $(addprefix $(FUZZ)/,coverage.o replay.s replay.o libreplay.a)
+	$(CLANG) -fsanitize=fuzzer -o $@ $(INPUTS)
+
+fuzz: $(FUZZ)/archive $(FUZZ)/replay
+	@host/fuzz/run.sh $(FUZZ) archive $(FUZZ_SECONDS) 1200 examples/line.capture \
+		examples/histories/*.history
+	@host/fuzz/run.sh $(FUZZ) replay $(FUZZ_SECONDS) 8192 examples/histories/*.history
+
+# The tests under valgrind
+
+valgrind: $(addprefix $(OUT)/,$(C_TESTS) serial differential replay_test display) $(REPLAY)
+	@host/valgrind/run.sh $(VALGRIND) $(OUT) $(REPLAY) $(C_TESTS)
 
 # The measurements
 

@@ -158,6 +158,7 @@ def cases():
     yield "tick_of_1", *broken(names(b"h1") + field(3, b"\x00"))
     yield "field_of_4096", received(bytes(4096)), counts()
     yield "field_of_4097", *broken(received(bytes(4097)))
+    yield "frame_in_a_field_of_4097", *broken(received(case_6 + bytes(4097 - len(case_6))))
     yield "cut_tag", *broken(names(b"h1") + b"\x03")
     yield "cut_length", *broken(names(b"h1") + b"\x03\x00")
     yield "cut_name", *broken(names(b"h1")[:-1])

@@ -1,6 +1,6 @@
 #!/usr/bin/env bash
 # Replays each history of a folder and holds what is printed to the expected lines beside it; then
-# a mebibyte of noise, a closed standard input and an output that takes nothing.
+# a closed standard input and an output that takes nothing.
 #
 #   run.sh PROGRAM FOLDER
 set -euo pipefail
@@ -17,17 +17,9 @@ for history in "$folder"/*.history; do
     count=$((count + 1))
 done
 
-noise() {
-    for _ in $(seq 256); do
-        printf '\002\020\000'
-        head -c 4096 /dev/zero
-    done
-}
-noise | "$program" | diff -u "$folder/empty.expected" -
-
 # A read or a write that fails ends the program without a fault.
 "$program" <&- >"$printed"
 test ! -s "$printed"
 "$program" <"$folder/case_6.history" >/dev/full
 
-echo "replay: $count histories and a mebibyte of noise give their expected lines"
+echo "replay: $count histories give their expected lines"

@@ -133,7 +133,11 @@ impl Ledger {
         value.is_empty()
     }
 
+    /// A field that is too long is broken as a whole.
     fn receive(&mut self, bytes: &[u8]) -> bool {
+        if bytes.len() > FIELD_MAX {
+            return false;
+        }
         for &byte in bytes {
             if byte == FLAG {
                 let run = self.run.replace(Vec::new()).unwrap_or_default();
@@ -142,7 +146,7 @@ impl Ledger {
                 run.push(byte);
             }
         }
-        bytes.len() <= FIELD_MAX
+        true
     }
 
     fn close(&mut self, run: &[u8]) {

@@ -11,20 +11,26 @@ const NAMES: [&str; 20] = [
 /// Names that are not valid, the first of them by its length alone.
 const BAD_NAMES: [&str; 5] = ["abcdefghijklmnopqrstuvwxyz12", "", "1h", "h 1", "_h"];
 
+/// The module at the other end: the names that it tells of, and the sequence that it sent last.
+pub struct Sender {
+    names: Vec<Vec<u8>>,
+    sequence: u8,
+}
+
 pub fn history(random: &mut Random) -> Vec<u8> {
-    let mut history = watch_list(random);
-    let parts = random.below(12);
-    let stream: Vec<u8> = (0..parts).flat_map(|_| part(random)).collect();
-    let mut rest = stream.as_slice();
-    while !rest.is_empty() {
-        let most = random.one_of(&[1, 7, 60, 4096]);
-        let (piece, behind) = rest.split_at(rest.len().min(1 + random.below(most)));
-        field(&mut history, 2, piece);
-        let ticks = random.one_of(&[0, 0, 0, 0, 0, 1, 2, 29, 30, 31]);
-        (0..ticks).for_each(|_| field(&mut history, 3, &[]));
-        rest = behind;
+    let names = watched(random);
+    let mut history = watch_list(random, &names);
+    let mut sender = Sender::new(random, names);
+    let parts = random.below(40);
+    let mut stream: Vec<u8> = (0..parts).flat_map(|_| sender.part(random)).collect();
+    if random.below(40) == 0 {
+        // All in one field, near the greatest length.
+        stream.resize(4092 + random.below(10), 0);
+        field(&mut history, 2, &stream);
+    } else {
+        play(random, &mut history, &stream);
     }
-    if random.below(5) == 0 {
+    if random.below(10) == 0 {
         damage(random, &mut history);
     }
     history
@@ -41,56 +47,180 @@ pub fn noise_of_a_mebibyte(random: &mut Random) -> Vec<u8> {
     history
 }
 
-fn field(history: &mut Vec<u8>, tag: u8, value: &[u8]) {
+/// Every count passes 65,535, the one of refusal 2 apart.
+pub fn counts_that_wrap() -> Vec<u8> {
+    let frames = [
+        enclose(1, 0, &[]),
+        enclose(1, 1, &[]).repeat(2),
+        enclose(2, 1, &[]),
+        vec![FLAG, ESCAPE, FLAG],
+        vec![FLAG, 0, FLAG],
+        vec![FLAG, 0, 0, 0, 0, FLAG],
+        enclose(3, 1, &[]),
+        enclose(2, 1, &[0]),
+    ];
+    let mut history = Vec::new();
+    for _ in 0..65_540 {
+        field(&mut history, 2, &frames.concat());
+    }
+    history
+}
+
+pub fn field(history: &mut Vec<u8>, tag: u8, value: &[u8]) {
     history.push(tag);
     history.extend((value.len() as u16).to_be_bytes());
     history.extend(value);
 }
 
-fn watch_list(random: &mut Random) -> Vec<u8> {
+/// Up to seventeen names, each once.
+fn watched(random: &mut Random) -> Vec<Vec<u8>> {
+    let count = random.one_of(&[0, 1, 1, 2, 2, 2, 3, 3, 3, 4, 5, 5, 7, 9, 16, 16, 17]);
+    let first = random.below(NAMES.len());
+    let names = NAMES.iter().cycle().skip(first).take(count);
+    names.map(|name| name.as_bytes().to_vec()).collect()
+}
+
+fn watch_list(random: &mut Random, names: &[Vec<u8>]) -> Vec<u8> {
     let mut history = Vec::new();
-    let count = random.one_of(&[0, 1, 2, 2, 3, 3, 5, 16, 17]);
-    for name in NAMES.iter().take(count) {
-        field(&mut history, 1, name.as_bytes());
+    for name in names {
+        field(&mut history, 1, name);
     }
-    if random.below(30) == 0 {
+    if random.below(40) == 0 {
         field(&mut history, 1, random.one_of(&NAMES).as_bytes());
     }
-    if random.below(30) == 0 {
+    if random.below(40) == 0 {
         field(&mut history, 1, random.one_of(&BAD_NAMES).as_bytes());
     }
     history
 }
 
-/// A frame, sometimes twice, sometimes damaged, or noise.
-fn part(random: &mut Random) -> Vec<u8> {
-    let mut sent = frame(random);
-    match random.below(12) {
-        0 => sent = sent.repeat(2),
-        1 => damage(random, &mut sent),
-        2 => sent = noise(random),
-        3 => sent.insert(sent.len() - 1, ESCAPE),
-        // One flag closes this frame and opens the next.
-        4 => sent.truncate(sent.len() - 1),
-        _ => {}
+/// The stream in pieces, with ticks at a few of the cuts.
+fn play(random: &mut Random, history: &mut Vec<u8>, stream: &[u8]) {
+    let most = random.one_of(&[1, 7, 60, 400, 4096]);
+    let mut pieces = Vec::new();
+    let mut rest = stream;
+    while !rest.is_empty() {
+        let (piece, behind) = rest.split_at(rest.len().min(1 + random.below(most)));
+        pieces.push(piece);
+        rest = behind;
     }
-    sent
+    let mut ticks = vec![0; pieces.len() + 1];
+    for _ in 0..random.below(8) {
+        let cut = random.below(ticks.len());
+        ticks[cut] += random.one_of(&[1, 1, 1, 2, 3, 7, 14, 28, 29, 30, 31]);
+    }
+    for (cut, count) in ticks.into_iter().enumerate() {
+        (0..count).for_each(|_| field(history, 3, &[]));
+        if let Some(piece) = pieces.get(cut) {
+            field(history, 2, piece);
+        }
+    }
+}
+
+impl Sender {
+    pub fn new(random: &mut Random, names: Vec<Vec<u8>>) -> Sender {
+        Sender {
+            names,
+            sequence: random.one_of(&[0, 0x70, 0x7b, 0xef, 0xf8, 0xfe]),
+        }
+    }
+
+    /// A frame, sometimes twice, sometimes damaged, or noise.
+    pub fn part(&mut self, random: &mut Random) -> Vec<u8> {
+        let mut sent = self.frame(random);
+        match random.below(30) {
+            0 => sent = sent.repeat(2),
+            1 => damage(random, &mut sent),
+            2 => sent = noise(random),
+            3 => sent.insert(sent.len() - 1, ESCAPE),
+            // One flag closes this frame and opens the next.
+            4 => sent.truncate(sent.len() - 1),
+            _ => {}
+        }
+        sent
+    }
+
+    fn frame(&mut self, random: &mut Random) -> Vec<u8> {
+        match random.below(40) {
+            0..=2 => enclose(2, random.byte(), &[]),
+            3 => enclose(2, random.byte(), &[random.byte()]),
+            4 => enclose(random.byte(), random.byte(), &[]),
+            5..=6 => enclose(1, self.next(random), &long(random)),
+            7 => vec![FLAG, random.byte() & 0x3f, FLAG],
+            _ => enclose(1, self.next(random), &self.packet(random)),
+        }
+    }
+
+    /// Most often the next sequence, which goes from ff to 00.
+    fn next(&mut self, random: &mut Random) -> u8 {
+        self.sequence = match random.below(20) {
+            0..=2 => self.sequence,
+            3 => 0,
+            4 => random.byte(),
+            _ => self.sequence.wrapping_add(1),
+        };
+        self.sequence
+    }
+
+    /// Most often an update of a watched name.
+    fn packet(&self, random: &mut Random) -> Vec<u8> {
+        if random.below(4) == 0 {
+            return odd_packet(random);
+        }
+        let mut packet = vec![1, 3, 0, random.byte()];
+        if random.below(8) == 0 {
+            item(&mut packet, 0x07, &[random.byte()]);
+        }
+        let name = match self.names.as_slice() {
+            [] => NAMES[0].as_bytes(),
+            names => &names[random.below(names.len())],
+        };
+        item(&mut packet, 0x01, name);
+        if random.below(6) == 0 {
+            item(&mut packet, 0x0f, &[random.byte() & 1]);
+        } else {
+            let bytes = bytes(random, &[1, 2, 4, 8]);
+            item(&mut packet, random.one_of(&[0x02, 0x16]), &bytes);
+        }
+        if random.below(8) == 0 {
+            item(&mut packet, 0x14, &[]);
+        }
+        packet
+    }
+}
+
+/// A packet with any of its parts wrong or missing.
+fn odd_packet(random: &mut Random) -> Vec<u8> {
+    let opcode = random.one_of(&[3, 3, 3, 3, 3, 3, 3, 3, 0x0b]);
+    let mut packet = vec![random.one_of(&[1, 1, 1, 1, 1, 1, 1, 1, 0]), opcode, 0, random.byte()];
+    if random.below(4) != 0 {
+        item(&mut packet, 0x01, random.one_of(&NAMES).as_bytes());
+    }
+    if random.below(6) != 0 {
+        let bytes = bytes(random, &[0, 1, 2, 3, 4, 8, 9]);
+        item(&mut packet, random.one_of(&[0x02, 0x02, 0x16, 0x0f, 0x03]), &bytes);
+    }
+    if random.below(6) == 0 {
+        item(&mut packet, 0x01, random.one_of(&NAMES).as_bytes());
+    }
+    if random.below(3) == 0 {
+        item(&mut packet, 0x14, &[0][..random.one_of(&[0, 0, 0, 1])]);
+    }
+    if random.below(8) == 0 {
+        packet.truncate(random.below(packet.len()));
+    }
+    packet
+}
+
+fn bytes(random: &mut Random, lengths: &[usize]) -> Vec<u8> {
+    let length = random.one_of(lengths);
+    let any = random.byte();
+    (0..length).map(|_| random.one_of(&[0, 1, 0xff, 0x80, 0x26, any])).collect()
 }
 
 fn noise(random: &mut Random) -> Vec<u8> {
     let most = random.one_of(&[4, 40, 800]);
     (0..random.below(most)).map(|_| random.byte()).collect()
-}
-
-fn frame(random: &mut Random) -> Vec<u8> {
-    let sequence = random.one_of(&[0, 0, 1, 1, 2, 0x7d, 0x7e, 0xff]);
-    match random.below(12) {
-        0 => enclose(2, sequence, &[]),
-        1 => enclose(2, sequence, &[random.byte()]),
-        2 => enclose(random.byte(), sequence, &[]),
-        3 => enclose(1, sequence, &long(random)),
-        _ => enclose(1, sequence, &packet(random)),
-    }
 }
 
 /// A payload around the limit, of bytes that are often escaped.
@@ -99,32 +229,6 @@ fn long(random: &mut Random) -> Vec<u8> {
     (0..length)
         .map(|_| random.one_of(&[0, 1, FLAG, ESCAPE]))
         .collect()
-}
-
-fn packet(random: &mut Random) -> Vec<u8> {
-    let opcode = random.one_of(&[3, 3, 3, 3, 3, 3, 3, 3, 0x0b]);
-    let mut packet = vec![random.one_of(&[1, 1, 1, 1, 1, 1, 1, 1, 0]), opcode, 0, random.byte()];
-    if random.below(8) == 0 {
-        item(&mut packet, 0x07, &[random.byte()]);
-    }
-    if random.below(12) != 0 {
-        item(&mut packet, 0x01, random.one_of(&NAMES[..6]).as_bytes());
-    }
-    if random.below(12) != 0 {
-        let length = random.one_of(&[0, 1, 1, 2, 2, 3, 4, 4, 8, 8, 9]);
-        let bytes: Vec<u8> = (0..length).map(|_| random.one_of(&[0, 1, 0xff, 0x80, 0x26])).collect();
-        item(&mut packet, random.one_of(&[0x02, 0x02, 0x16, 0x0f, 0x03]), &bytes);
-    }
-    if random.below(10) == 0 {
-        item(&mut packet, 0x01, b"h1");
-    }
-    if random.below(6) == 0 {
-        item(&mut packet, 0x14, &[0][..random.one_of(&[0, 0, 0, 1])]);
-    }
-    if random.below(12) == 0 {
-        packet.truncate(random.below(packet.len()));
-    }
-    packet
 }
 
 fn item(packet: &mut Vec<u8>, kind: u8, value: &[u8]) {

@@ -1,6 +1,6 @@
 -- The known answers hold: both columns of the table compute to the same.
 use mathlib.Core.Path.{_≡_, refl}
-use mathlib.Core.List.{List, map}
+use mathlib.Core.List.{map}
 use Rattle.slices.specs.Same.{sameBytes}
 use Rattle.crc.specs.Crc.{shiftBit, shiftBits, addByte, crcOf}
 use Rattle.frame.specs.Stuffing.{stuff, unstuffFrom, unstuff}

@@ -1,7 +1,7 @@
 -- 01, Known answers: each case as the definitions that the contracts cite compute it, beside the answer that 01 gives.
 use Prim.Native.Nat.{ℕ}
 use mathlib.Core.List.{List, [], _∷_, map}
-use mathlib.Core.Option.{Option, some, none}
+use mathlib.Core.Option.{Option, some}
 use lib.IntN.{ℤ, pos, negsuc}
 use lib.ListN.{replicate}
 use Rattle.crc.specs.Crc.{linkStart, crcOf}

@@ -9,13 +9,14 @@ use lib.Dec.{leb, eqb}
 use lib.ListN.{length, take, drop, getD, length-drop, drop-of-length-le}
 use lib.Seq.{drop-drop}
 use borrow.Author.Tests.{leb-true}
+use Rattle.slices.proofs.TestLaws.{both}
 use Rattle.rows.specs.Rows.{boardOf}
 use Rattle.board.specs.WatchList.{Good, mayJoin, sizeOf, isWhole, namesFrom, watchNames, fieldOf, asField, watchBoard, acceptedWith, asWatched}
 use Rattle.board.specs.declared.list.Field.the-variants.{Name, Bad}
 use Rattle.board.specs.declared.list.Listed.the-variants.{Accepted, Refused}
 use Rattle.board.specs.declared.list.Watched.{Watched}
 use Rattle.rows.specs.declared.Board.{Board}
-use Rattle.board.proofs.WatchLaws.{both-right, good-more, watch-more, accepted-joins, refused-stays}
+use Rattle.board.proofs.WatchLaws.{good-more, watch-more, accepted-joins, refused-stays}
 
 -- the bytes of a name that has joined are passed over
 skipped : (n : ℕ) (names : List (List ℕ)) (rest : List ℕ) → n ≤ length rest → namesFrom n names rest ≡ namesFrom 0 names (drop n rest)
@@ -49,7 +50,7 @@ field-size (tag ∷ []) size e = let z : _≡_ {A = ℕ} 0 1 = cc in absurd (ome
 field-size (tag ∷ high ∷ []) size e = let z : _≡_ {A = ℕ} 0 1 = cc in absurd (omega arith)
 field-size (tag ∷ high ∷ low ∷ rest) size e =
     let w = whole (isWhole tag (sizeOf high low) rest) (sizeOf high low) size e in
-    let all : sizeOf high low ≤ length rest = leb-true (sizeOf high low) (length rest) (both-right (eqb tag 0x01) (leb (sizeOf high low) (length rest)) (w .0)) in
+    let all : sizeOf high low ≤ length rest = leb-true (sizeOf high low) (length rest) (both (eqb tag 0x01) (leb (sizeOf high low) (length rest)) (w .0) .second) in
     omega arith
 
 -- 01, The board: the name joins, and the rest of the list is read by the same rule
@@ -60,7 +61,7 @@ field-next names (tag ∷ []) size e = let z : _≡_ {A = ℕ} 0 1 = cc in absur
 field-next names (tag ∷ high ∷ []) size e = let z : _≡_ {A = ℕ} 0 1 = cc in absurd (omega arith)
 field-next names (tag ∷ high ∷ low ∷ rest) size e =
     let w = whole (isWhole tag (sizeOf high low) rest) (sizeOf high low) size e in
-    let all : sizeOf high low ≤ length rest = leb-true (sizeOf high low) (length rest) (both-right (eqb tag 0x01) (leb (sizeOf high low) (length rest)) (w .0)) in
+    let all : sizeOf high low ≤ length rest = leb-true (sizeOf high low) (length rest) (both (eqb tag 0x01) (leb (sizeOf high low) (length rest)) (w .0) .second) in
     let past : size + 3 ≡ suc (suc (suc size)) = omega arith in
     let fits : size ≤ length rest = omega (arith, w .1) in
     rw (w .0, w .1, past, skipped size (names ++ (take size rest ∷ [])) rest fits)

@@ -15,7 +15,7 @@ use Rattle.packet.specs.Items.{Item, eofKind, countOf, firstOf, behindOf}
 use Rattle.packet.specs.Packet.{Judged, packet, judgedItems}
 use Rattle.packet.specs.Packet as judged
 use Rattle.packet.specs.Answers as packet-answers
-use Rattle.packet.specs.declared.Reading.the-variants as packet-reading
+use Rattle.packet.specs.declared.reading.Reading.the-variants as packet-reading
 use Rattle.rows.specs.Names.{placeOf}
 use Rattle.value.specs.Value.{valueOf}
 use Rattle.rows.specs.Rows.{rowNames, updateBoard}

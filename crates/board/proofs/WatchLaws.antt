@@ -6,12 +6,14 @@ use mathlib.Core.List.{List, [], _∷_, _++_, map}
 use mathlib.Core.Option.{Option, some, none}
 use Prim.Native.Nat.{ℕ, zero, suc, _+_, _-_, _≤_, _<_}
 use native.Mathlib.Omega.{arith}
-use lib.Dec.{leb, ltb}
-use lib.ListN.{length, getD, replicate, length-append, length-map}
-use borrow.Author.Tests.{leb-true, ltb-true, not-true}
-use Rattle.packet.specs.Names.{between, isLetter, allNameBytes, validName}
+use lib.Dec.{ltb}
+use lib.ListN.{length, replicate, length-append, length-map}
+use borrow.Author.Tests.{ltb-true, not-true}
+use Rattle.packet.specs.Names.{validName}
 use Rattle.slices.proofs.PutLaws.{put-first}
 use Rattle.rows.specs.Names.{placeFrom, placeOf, isIn}
+use Rattle.slices.proofs.TestLaws.{both}
+use Rattle.packet.proofs.NameLaws.{name-size}
 use Rattle.rows.specs.Rows.{rowCount, nameRoom, rowName, rowNames, watched, freshRow, changeAt, putRow, boardOf, asPlace}
 use Rattle.board.specs.WatchList.{Good, allValid, distinct, mayJoin, watchBoard, joinBoard, acceptedWith, refusedWith}
 use Rattle.board.specs.declared.list.Listed.the-variants.{Accepted, Refused}
@@ -19,14 +21,6 @@ use Rattle.rows.specs.declared.Place.the-variants.{Row as At, Nowhere}
 use Rattle.rows.specs.declared.Row.{Row}
 use Rattle.rows.specs.declared.Board.{Board}
 use Rattle.rows.proofs.NameLaws.{NoneEmpty, used-first, place-empty, in-used, room, not-in, in-more, differ}
-
-pub both-left : (t u : Bool) → (t && u) ≡ true → t ≡ true
-both-left true u h = refl
-both-left false u h = let z : _≡_ {A = ℕ} 0 1 = cc in absurd (omega arith)
-
-pub both-right : (t u : Bool) → (t && u) ≡ true → u ≡ true
-both-right true u h = h
-both-right false u h = let z : _≡_ {A = ℕ} 0 1 = cc in absurd (omega arith)
 
 never : (t : Bool) → (t && false) ≡ false
 never true = refl
@@ -39,21 +33,14 @@ pub record Fit (name : List ℕ) : Type 0 where
 
 -- a valid name is such a name
 pub valid-fit : (name : List ℕ) → validName name ≡ true → Fit name
-unfolding validName between
-valid-fit name h =
-    let start = both-left (between 1 27 (length name) && isLetter (getD name 0 0)) (allNameBytes name) h in
-    let size = both-left (between 1 27 (length name)) (isLetter (getD name 0 0)) start in
-    record {
-      some = leb-true 1 (length name) (both-left (leb 1 (length name)) (leb (length name) 27) size);
-      few = leb-true (length name) 27 (both-right (leb 1 (length name)) (leb (length name) 27) size);
-    }
+valid-fit name h = let size = name-size name h in record { some = size .0; few = size .1 }
 
 -- names that a board can have: each of them fits, and there are no more than rows
 abbrev pub Fits : List (List ℕ) → Type 0
 Fits [] = Unit {0}
 Fits (name ∷ names) = Fit name × Fits names
 
-none-empty : (names : List (List ℕ)) → Fits names → NoneEmpty names
+pub none-empty : (names : List (List ℕ)) → Fits names → NoneEmpty names
 none-empty [] h = tt
 none-empty (name ∷ names) h = (h .0 .some, none-empty names (h .1))
 
@@ -81,7 +68,7 @@ pub good-fits : (names : List (List ℕ)) → allValid names ≡ true → Fits n
 unfolding allValid
 good-fits [] h = tt
 good-fits (name ∷ names) h =
-    (valid-fit name (both-left (validName name) (allValid names) h), good-fits names (both-right (validName name) (allValid names) h))
+    (valid-fit name (both (validName name) (allValid names) h .first), good-fits names (both (validName name) (allValid names) h .second))
 
 pub good-none : Good []
 unfolding allValid distinct
@@ -91,34 +78,34 @@ join-few : (names : List (List ℕ)) (name : List ℕ) → mayJoin names name �
 unfolding mayJoin
 join-few names name h =
     let test = not (isIn name names) && ltb (length names) rowCount in
-    ltb-true (length names) rowCount (both-right (not (isIn name names)) (ltb (length names) rowCount) (both-right (validName name) test h))
+    ltb-true (length names) rowCount (both (not (isIn name names)) (ltb (length names) rowCount) (both (validName name) test h .second) .second)
 
 valid-more : (names : List (List ℕ)) (name : List ℕ) → allValid names ≡ true → validName name ≡ true → allValid (names ++ (name ∷ [])) ≡ true
 unfolding allValid
 valid-more [] name h v = rw v
 valid-more (first ∷ names) name h v =
-    let valid = both-left (validName first) (allValid names) h in
-    rw valid (valid-more names name (both-right (validName first) (allValid names) h) v)
+    let valid = both (validName first) (allValid names) h .first in
+    rw valid (valid-more names name (both (validName first) (allValid names) h .second) v)
 
 once-more : (names : List (List ℕ)) (name : List ℕ) → distinct names ≡ true → isIn name names ≡ false → distinct (names ++ (name ∷ [])) ≡ true
 unfolding distinct placeFrom
 once-more [] name h e = refl
 once-more (first ∷ names) name h e =
     let out = not-in name first names e in
-    let alone = not-true (isIn first names) (both-left (not (isIn first names)) (distinct names) h) in
+    let alone = not-true (isIn first names) (both (not (isIn first names)) (distinct names) h .first) in
     let still = in-more first name names (differ first name (out .first)) alone in
-    rw still (once-more names name (both-right (not (isIn first names)) (distinct names) h) (out .others))
+    rw still (once-more names name (both (not (isIn first names)) (distinct names) h .second) (out .others))
 
 -- with a name that may join they are again
 pub good-more : (names : List (List ℕ)) (name : List ℕ) → Good names → mayJoin names name ≡ true → Good (names ++ (name ∷ []))
 unfolding mayJoin
 good-more names name o h =
     let test = not (isIn name names) && ltb (length names) rowCount in
-    let rest = both-right (validName name) test h in
+    let rest = both (validName name) test h .second in
     let few = join-few names name h in
     record {
-      valid = valid-more names name (o .valid) (both-left (validName name) test h);
-      once = once-more names name (o .once) (not-true (isIn name names) (both-left (not (isIn name names)) (ltb (length names) rowCount) rest));
+      valid = valid-more names name (o .valid) (both (validName name) test h .first);
+      once = once-more names name (o .once) (not-true (isIn name names) (both (not (isIn name names)) (ltb (length names) rowCount) rest .first));
       few = simp length-append (omega arith);
     }
 

@@ -1,5 +1,7 @@
 // Runs the proved functions of the board on the cases that the papers name, and prints what they
 // answer and what the rows show.
+ghost use mathlib.Core.Path.{_≡_};
+ghost use Rattle.rows.specs.Rows.{tickBoard};
 use board::Answer;
 use board::Listed;
 use libc::STDOUT_FILENO;
@@ -137,11 +139,20 @@ fn show_reading(label: &[u8], packet: &[u8]) {
     show_rows(reading.board);
 }
 
+// The board, lent for one tick.
+fn lent(board: Board) -> Board
+    ensures { λ r. ⌜ r ≡ tickBoard board ⌝ }
+{
+    let mut own = board;
+    rows::tick_in_place(&mut own);
+    own
+}
+
 fn ticked(board: Board, ticks: u32) -> Board {
     let mut next = board;
     let mut i: u32 = 0;
     while i < ticks {
-        next = rows::tick(next);
+        next = lent(next);
         i += 1;
     }
     next

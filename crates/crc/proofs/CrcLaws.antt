@@ -1,4 +1,5 @@
--- The laws of the CRC over every start value: joined strings, and the check over content with its check bytes is 0.
+-- The laws of the CRC hold from every start value: it goes byte by byte, so over joined strings it goes on where the first left
+-- off; and the two check bytes clear the two halves of the register, so over content with its check it is 0.
 use mathlib.Core.Path.{_≡_, refl, sym, ap, ap₂, _∙_}
 use mathlib.Core.List.{List, [], _∷_, _++_}
 use Prim.Native.Nat.{ℕ, zero, suc, _+_, _*_, _/_, _%_, _^_, _≤_, _<_}

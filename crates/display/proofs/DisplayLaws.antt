@@ -1,4 +1,5 @@
--- A new packet is its frame's payload, and fits the packet buffer of a call that was not refused.
+-- A new packet fits the packet buffer of a call that was not refused: it is the payload of content of at most 387 bytes, and no
+-- other answer brings a packet.
 use mathlib.Core.Path.{_≡_, refl, sym, ap, _∙_}
 use mathlib.Core.Bool.{Bool, true, false, cond}
 use mathlib.Core.List.{List}
@@ -33,7 +34,7 @@ use Rattle.link.specs.declared.receiver.Last.{Last}
 use Rattle.link.specs.declared.receiver.Link.{Link}
 use Rattle.link.proofs.ReceivingLaws.{short-reply, short-packet, room-for-both}
 use Rattle.link.proofs.WalkLaws.{walk-length}
-use Rattle.refusals.specs.Numbers.{unknownType, loadedAcknowledgement}
+use Rattle.refusals.specs.Numbers.{unknownType}
 
 -- the length that is answered is that of the packet, and it is within the limit
 pub record Handed (packet : List ℕ) (n limit : ℕ) : Type 0 where

@@ -1,4 +1,5 @@
--- Whole content judged, one law for each answer.
+-- Whole content is judged by its length, then by its check: what these tests say settles the answer, so each answer has its law
+-- and tells of the content.
 use mathlib.Core.Path.{_≡_, refl, ap, ap₂, _∙_}
 use mathlib.Core.Bool.{Bool, true, false}
 use mathlib.Core.List.{List}

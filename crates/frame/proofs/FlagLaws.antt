@@ -1,8 +1,9 @@
--- What the definition of a flagged string says of each place: a flag first, a flag last, none between.
-use mathlib.Core.Path.{_≡_, refl, sym, ap, _∙_}
+-- A flagged string has a flag first, a flag last and none between, since its first flag behind the first byte stands at its
+-- end.
+use mathlib.Core.Path.{_≡_, refl}
 use mathlib.Core.Bool.{Bool, true, false, cond}
 use mathlib.Core.List.{List, [], _∷_}
-use Prim.Native.Nat.{ℕ, zero, suc, _+_, _-_, _≤_, _<_}
+use Prim.Native.Nat.{ℕ, zero, suc, _-_, _<_}
 use native.Mathlib.Omega.{arith}
 use lib.Dec.{eqb}
 use lib.ListN.{length, getD}

@@ -1,5 +1,6 @@
--- The flags of a whole frame, and the first flag of a string of bytes.
-use mathlib.Core.Path.{_≡_, refl, sym, ap, _∙_}
+-- The first flag is looked for byte by byte, and a string is flagged if the first one behind its first byte is its last byte:
+-- so each test of the whole-frame reader has its law.
+use mathlib.Core.Path.{_≡_, refl}
 use mathlib.Core.Bool.{Bool, true, false, cond}
 use mathlib.Core.List.{List, [], _∷_}
 use Prim.Native.Nat.{ℕ, suc, _+_, _-_, _≤_, _<_}

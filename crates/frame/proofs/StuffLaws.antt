@@ -2,16 +2,14 @@
 use mathlib.Core.Path.{_≡_, refl, sym, ap, _∙_}
 use mathlib.Core.Bool.{Bool, true, false, cond}
 use mathlib.Core.List.{List, [], _∷_, _++_, append-assoc}
-use Prim.Native.Nat.{ℕ, suc, _+_, _*_, _≤_, _<_}
+use Prim.Native.Nat.{ℕ, _+_, _*_, _≤_, _<_}
 use native.Mathlib.Numerals.{add-one}
 use native.Mathlib.Omega.{arith}
 use lib.Dec.{eqb}
-use lib.ListN.{length, drop, getD, set, length-append, drop-of-length-le}
+use lib.ListN.{length, drop, getD, length-append, drop-of-length-le}
 use lib.Seq.{drop-cons}
 use borrow.Author.Tests.{eq-eqb, ne-eqb, eqb-false}
-use Rattle.slices.specs.Put.{putAt}
-use Rattle.slices.proofs.PutLaws.{put-append}
-use Rattle.frame.specs.Stuffing.{stuffByte, stuff, escapes}
+use Rattle.frame.specs.Stuffing.{stuffByte, stuff}
 
 pub stuff-flag : (b : ℕ) → b ≡ 0x7e → stuffByte b ≡ 0x7d ∷ 0x5e ∷ []
 stuff-flag b e = rw (eq-eqb b 0x7e e)

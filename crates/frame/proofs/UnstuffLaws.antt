@@ -1,5 +1,5 @@
 -- One byte of unstuffing, one law for each way that a reader goes: at the end, and by what the first byte means.
-use mathlib.Core.Path.{_≡_, refl, sym, ap, _∙_}
+use mathlib.Core.Path.{_≡_, refl, _∙_}
 use mathlib.Core.List.{List, [], _∷_}
 use mathlib.Core.Bool.{Bool, true, false}
 use Prim.Native.Nat.{ℕ, suc, _+_, _≤_, _<_}
@@ -10,7 +10,7 @@ use lib.Seq.{drop-cons, getD-take}
 use lib.Dec.{eqb}
 use borrow.Author.Tests.{eq-eqb, ne-eqb, eqb-true, eqb-false, lt-ltb, le-ltb}
 use Rattle.refusals.specs.Numbers.{badFraming, longContent}
-use Rattle.frame.specs.Stuffing.{State, plain, escaped, Meaning, escapes-next, stands-for, faulty, meaning, Unstuffed, content, refused, joined, closed, contentMax, unstuffFrom}
+use Rattle.frame.specs.Stuffing.{State, plain, escaped, escapes-next, stands-for, faulty, meaning, Unstuffed, content, refused, joined, closed, contentMax, unstuffFrom}
 use Rattle.frame.specs.Answers.{UnstuffsAs}
 
 -- what a byte means in the plain state

@@ -1,7 +1,7 @@
 -- 01, Frames: content is type, sequence, payload (0 to 383 bytes) and check (two bytes, high byte first).
 use Prim.Native.Nat.{ℕ, _-_}
 use mathlib.Core.Bool.{cond}
-use mathlib.Core.List.{List, [], _∷_, _++_}
+use mathlib.Core.List.{List, _∷_, _++_}
 use lib.Dec.{eqb, ltb}
 use lib.ListN.{length, take, drop, getD}
 use Rattle.refusals.specs.Numbers.{shortContent, badCheck}

@@ -1,9 +1,8 @@
 -- 01, Frames: the bytes of a frame on the line. Each 7e becomes 7d 5e, each 7d becomes 7d 5d, no other byte is escaped.
-use Prim.Native.Nat.{ℕ, zero, suc, _+_}
-use mathlib.Core.Bool.{Bool, false, cond}
+use Prim.Native.Nat.{ℕ, suc, _+_}
+use mathlib.Core.Bool.{cond}
 use mathlib.Core.List.{List, [], _∷_, _++_}
 use lib.Dec.{eqb, ltb}
-use lib.ListN.{length}
 use Rattle.refusals.specs.Numbers.{badFraming, longContent}
 
 abbrev pub flagByte : ℕ

@@ -1,7 +1,8 @@
--- An answer of the frame functions, as a report; and each part of a report can be read off it.
-use mathlib.Core.Path.{_≡_, refl, sym, ap, _∙_}
+-- Each answer of the frame functions computes to its report, and each part of a report can be read off it, since it has digits
+-- of its own.
+use mathlib.Core.Path.{_≡_, refl}
 use mathlib.Core.List.{List}
-use Prim.Native.Nat.{ℕ, _+_, _*_, _/_, _%_, _≤_, _<_}
+use Prim.Native.Nat.{ℕ, _/_, _%_, _≤_, _<_}
 use native.Mathlib.Omega.{arith}
 use lib.ListN.{length}
 use Rattle.frame.specs.Content as content

@@ -21,7 +21,6 @@ use Rattle.display.proofs.receive.Reads as receive
 use Rattle.display.proofs.start.Reads as start
 use Rattle.display.proofs.tick.Reads as tick
 use Rattle.ledger.specs.Answers as answers
-use Rattle.ledger.specs.Calls as calls
 use Rattle.ledger.specs.Answers.{Call}
 use Rattle.ledger.specs.Shown.{Left, took, ticked}
 

@@ -1,10 +1,9 @@
--- A count that wraps at 65,536 is the ledger's modulo 65,536 after one more as before.
-use mathlib.Core.Path.{_≡_, refl, sym, ap, _∙_}
+-- A count that wraps at 65,536 is the ledger's modulo 65,536 after one more as before, since the remainder of one more depends
+-- on the remainder alone.
+use mathlib.Core.Path.{_≡_, refl, ap}
 use mathlib.Core.List.{List, [], _∷_, map}
-use mathlib.Core.Bool.{cond}
-use Prim.Native.Nat.{ℕ, zero, suc, _+_, _%_, _-_}
+use Prim.Native.Nat.{ℕ, zero, suc, _-_}
 use native.Mathlib.Omega.{arith}
-use lib.Dec.{eqb}
 use lib.ListN.{getD, set}
 use borrow.Author.Tests.{ne-eqb}
 use Rattle.link.specs.Counts.{plusOne, plusOneAt, countOf}

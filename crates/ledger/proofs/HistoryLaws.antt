@@ -2,19 +2,19 @@
 use mathlib.Core.Path.{_≡_, refl, sym, ap, ap₂, _∙_}
 use mathlib.Core.Bool.{Bool, true, false, cond, _||_}
 use mathlib.Core.List.{List, [], _∷_, _++_, map, append-assoc, append-nil}
-use mathlib.Core.Option.{Option, some, none}
-use Prim.Native.Nat.{ℕ, suc, _+_, _-_, _≤_}
+use mathlib.Core.Option.{Option}
+use Prim.Native.Nat.{ℕ, suc, _-_, _≤_}
 use native.Mathlib.Omega.{arith}
 use lib.Dec.{ltb}
 use lib.ListN.{length, take}
 use lib.Seq.{take-nil}
-use Rattle.ledger.specs.Ledger.{Ledger, start}
-use Rattle.ledger.specs.Frames.{Turn, goes-on, closes, turn, Taken, afterTurn, taken, frameOf}
+use Rattle.ledger.specs.Ledger.{Ledger}
+use Rattle.ledger.specs.Frames.{Turn, goes-on, closes, turn, Taken, afterTurn, taken}
 use Rattle.ledger.specs.Answers as answers
 use Rattle.ledger.specs.Calls as calls
 use Rattle.ledger.specs.Answers.{Call}
-use Rattle.ledger.specs.Calls.{Effect, closed, effectOf, withRun, pieceStep, shortStep, step, after}
-use Rattle.ledger.specs.History.{Event, byte, minute, eventsOf, history, Handed, handedBy, handedIn, handedOut, Happening, atTurn, happens, afterHistory, handedInHistory}
+use Rattle.ledger.specs.Calls.{effectOf, withRun, pieceStep, shortStep, step, after}
+use Rattle.ledger.specs.History.{Event, byte, eventsOf, history, Handed, handedBy, handedIn, handedOut, atTurn, happens, afterHistory, handedInHistory}
 
 -- histories one behind the other
 history-append : (l : Ledger) (xs ys : List Event) → afterHistory l (xs ++ ys) ≡ afterHistory (afterHistory l xs) ys

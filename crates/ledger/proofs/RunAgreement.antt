@@ -1,7 +1,7 @@
 -- The receiver's walk over a piece and the ledger's agree byte by byte: what the reader has seen since the last flag is what it
 -- sees in the run.
 use mathlib.Core.Path.{_≡_, refl, sym, ap, _∙_}
-use mathlib.Core.Bool.{Bool, true, false, cond}
+use mathlib.Core.Bool.{Bool, true, false}
 use mathlib.Core.List.{List, [], _∷_, _++_}
 use mathlib.Core.Option.{Option, some, none}
 use Prim.Native.Nat.{ℕ, suc, _≤_}
@@ -16,7 +16,7 @@ use Rattle.frame.specs.Reading.{readRun}
 use Rattle.link.specs.Reader.{behindFlag, endedBy, stepOf, contentAfter}
 use Rattle.link.specs.Walk as walk
 use Rattle.link.specs.Walk.{Walk, flagTurn, turnOf, goOn, walkOf}
-use Rattle.link.specs.Closing.{Outcome, dataType, acknowledgementType, repeats, acknowledgementFrame, againFrame, newFrame, dataFrame, refusedFrame, readOutcome, closeOf}
+use Rattle.link.specs.Closing.{Outcome, dataType, acknowledgementType, repeats, dataFrame, readOutcome, closeOf}
 use Rattle.link.specs.Seen.{Seen, seen, readerOf, nothingSeen, seenAfter, seenRun, closeSeen}
 use Rattle.link.specs.declared.counts.Counts.{Counts}
 use Rattle.link.specs.declared.reader.Ended.{Ended}
@@ -30,7 +30,7 @@ use Rattle.link.specs.declared.receiver.Last.the-variants.{None}
 use Rattle.link.proofs.WalkLaws.{turn-flag, turn-byte}
 use Rattle.link.proofs.SeenLaws.{step-grows, seen-step, seen-ended, seen-close}
 use Rattle.link.proofs.FrameLaws.{run-close}
-use Rattle.ledger.specs.Frames.{joined, Turn, goes-on, closes, atFlag, turn, Taken, afterTurn, taken}
+use Rattle.ledger.specs.Frames.{joined, goes-on, closes, atFlag, turn, Taken, afterTurn, taken}
 
 -- what stands in the reader for the ledger's run
 abbrev pub Standing : Option (List ℕ) → List ℕ → Reader → Type 0

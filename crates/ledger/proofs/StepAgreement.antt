@@ -1,25 +1,25 @@
--- One call keeps display and ledger in agreement, and gives what the ledger gives.
-use mathlib.Core.Path.{_≡_, refl, sym, ap, ap₂, _∙_, subst⁻¹}
+-- One call keeps display and ledger in agreement, and gives what the ledger gives: the walk over its piece reaches the same
+-- run, and the frame that it closes does the same to both.
+use mathlib.Core.Path.{_≡_, refl, ap, ap₂, _∙_, subst⁻¹}
 use mathlib.Core.Bool.{Bool, true, false, cond, _||_}
-use mathlib.Core.List.{List, [], _∷_, map}
+use mathlib.Core.List.{List, map}
 use mathlib.Core.Option.{Option, some, none}
-use Prim.Native.Nat.{ℕ, _≤_, _<_}
-use native.Mathlib.Omega.{arith}
+use Prim.Native.Nat.{ℕ, _≤_}
 use lib.Dec.{ltb}
 use lib.ListN.{length}
 use borrow.Author.Tests.{ltb-true, ltb-false}
 use Rattle.slices.specs.Put.{putAt}
 use Rattle.frame.specs.Stuffing.{contentMax}
-use Rattle.frame.specs.Content.{payloadMax}
 use Rattle.frame.specs.Reading.{readRun}
-use Rattle.rows.specs.Entries.{tickEntry}
+use Rattle.rows.specs.Entries.{boardShowing}
+use Rattle.rows.specs.Rows.{tickBoard}
 use Rattle.rows.specs.declared.Board.{Board}
-use Rattle.rows.proofs.EntryLaws.{entries-tick}
+use Rattle.rows.proofs.EntryLaws.{tick-showing}
 use Rattle.board.specs.Reading as reading
 use Rattle.board.specs.Reading.{Verdict}
 use Rattle.board.proofs.WatchLaws.{Fits}
-use Rattle.link.specs.Closing.{replyRoom, Outcome, closeOf}
-use Rattle.link.specs.Receiving.{Call, callOf, shortCall, walkCall, receiveOf}
+use Rattle.link.specs.Closing.{Outcome, closeOf}
+use Rattle.link.specs.Receiving.{callOf, shortCall, walkCall}
 use Rattle.link.specs.Seen.{Ours}
 use Rattle.link.specs.Walk.{Walk, walkOf}
 use Rattle.link.specs.declared.counts.Counts as link-counts
@@ -28,21 +28,20 @@ use Rattle.link.specs.declared.receiver.Last.{Last}
 use Rattle.link.proofs.OursLaws.{walk-within}
 use Rattle.link.proofs.ReceivingLaws.{short-reply, short-packet, room-for-both}
 use Rattle.link.proofs.WalkLaws.{walk-length}
-use Rattle.display.specs.Display as display
 use Rattle.display.specs.Display.{resultOf, outcomeOf, receivePiece, DisplaysAs, tickDisplay}
 use Rattle.display.specs.declared.Answer as display-answer
 use Rattle.display.specs.declared.Display.{Display}
 use Rattle.display.specs.declared.Received.{Received}
-use Rattle.ledger.specs.Ledger.{Ledger, olderEntry}
+use Rattle.ledger.specs.Ledger.{Ledger}
 use Rattle.ledger.specs.Frames as frames
 use Rattle.ledger.specs.Frames.{Frame, Taken, taken, frameOf}
 use Rattle.ledger.specs.Calls as calls
 use Rattle.ledger.specs.Answers.{piece, tick}
 use Rattle.ledger.specs.Calls.{Effect, afterReading, closed, effectOf, withRun, pieceStep, shortStep, step}
-use Rattle.ledger.specs.Shown.{asCounts, asLast, asAnswer, Left, took, ticked, asLeft}
+use Rattle.ledger.specs.Shown.{asCounts, asLast, asEntry, Left, took, ticked, asLeft}
 use Rattle.ledger.proofs.RunAgreement.{Standing, Reached, Agreement, agree}
-use Rattle.ledger.proofs.RowAgreement.{entries-older, names-older, row-names-tick}
-use Rattle.ledger.proofs.FrameAgreement.{linkOutcome, read-by-type, Shows, Effects, frame-agrees, nothing-agrees}
+use Rattle.ledger.proofs.RowAgreement.{entries-older, names-older}
+use Rattle.ledger.proofs.FrameAgreement.{read-by-type, Shows, Effects, frame-agrees, nothing-agrees}
 
 -- display and ledger agree
 pub record Agrees (names : List (List ℕ)) (l : Ledger) (d : Display) : Type 0 where
@@ -180,9 +179,8 @@ tick-agrees names l d a =
             counts-are = a .counts-are;
             shows =
                 record {
-                  rows-show = entries-tick (d .board) ∙ ap (map tickEntry) (a .shows .rows-show) ∙ entries-older (l .entries);
+                  showing = ap tickBoard (a .shows .showing) ∙ tick-showing (map asEntry (l .entries)) ∙ ap boardShowing (entries-older (l .entries));
                   named = names-older (l .entries) ∙ a .shows .named;
-                  in-rows = row-names-tick (d .board) ∙ a .shows .in-rows;
                 };
           };
     }

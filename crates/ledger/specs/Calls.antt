@@ -1,5 +1,5 @@
 -- 01, The ledger: what a call does to it, and what it answers.
-use Prim.Native.Nat.{ℕ, suc}
+use Prim.Native.Nat.{ℕ}
 use mathlib.Core.Bool.{Bool, false, cond, _||_}
 use mathlib.Core.List.{List, [], _∷_, map}
 use mathlib.Core.Option.{Option, some, none}
@@ -10,7 +10,7 @@ use Rattle.slices.specs.Put.{putAt}
 use Rattle.frame.specs.Writing as writing
 use Rattle.board.specs.Reading as reading
 use Rattle.board.specs.Reading.{Verdict, readingOf}
-use Rattle.ledger.specs.Ledger.{Counts, Entry, Ledger, nameOf, plusNew, plusAgain, plusHeard, plusUnread, plusRefused, updated, olderEntry}
+use Rattle.ledger.specs.Ledger.{Counts, Ledger, nameOf, plusNew, plusAgain, plusHeard, plusUnread, plusRefused, updated, olderEntry}
 use Rattle.ledger.specs.Answers.{Call, piece, tick, Answer, nothing, refused, heard, again, new, Given, took, ticked}
 use Rattle.ledger.specs.Frames as frames
 use Rattle.ledger.specs.Frames.{Frame, Taken, taken, frameOf}

@@ -1,9 +1,8 @@
 -- 01, The ledger: the history is the bytes taken and the ticks, in order. What it alone settles, wherever the pieces were cut.
-use Prim.Native.Nat.{ℕ, suc}
+use Prim.Native.Nat.{ℕ}
 use mathlib.Core.Bool.{cond}
 use mathlib.Core.List.{List, [], _∷_, _++_, map}
 use mathlib.Core.Option.{Option, some, none}
-use lib.IntN.{ℤ}
 use lib.ListN.{take}
 use Rattle.slices.specs.Same.{sameBytes}
 use Rattle.board.specs.Reading as reading
@@ -13,7 +12,7 @@ use Rattle.ledger.specs.Frames.{Turn, goes-on, closes, turn, frameOf}
 use Rattle.ledger.specs.Answers as answers
 use Rattle.ledger.specs.Calls as calls
 use Rattle.ledger.specs.Answers.{Call, Given, Answer}
-use Rattle.ledger.specs.Calls.{Effect, closed, withRun, step}
+use Rattle.ledger.specs.Calls.{closed, withRun, step}
 
 pub data Event : Type 0 where
   byte : ℕ → Event

@@ -1,5 +1,5 @@
 -- 01, The ledger: what it holds. It is fed only the watch list, the pieces, their buffers and the ticks.
-use Prim.Native.Nat.{ℕ, zero, suc, _+_}
+use Prim.Native.Nat.{ℕ, zero, suc}
 use mathlib.Core.Bool.{cond}
 use mathlib.Core.List.{List, [], _∷_, map}
 use mathlib.Core.Option.{Option, some, none}

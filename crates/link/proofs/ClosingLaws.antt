@@ -1,13 +1,13 @@
--- A frame at its closing flag, one law for each way through the code.
+-- A frame at its closing flag, one law for each way through the code: what the tests on the way say of it settles the outcome.
+-- Nine bytes are room for its acknowledgement, of which at most three are escaped.
 use mathlib.Core.Path.{_≡_, refl, sym, _∙_}
 use mathlib.Core.Bool.{Bool, true, false}
 use mathlib.Core.List.{List, [], _∷_}
-use Prim.Native.Nat.{ℕ, _/_, _%_, _≤_, _<_, min}
+use Prim.Native.Nat.{ℕ, _/_, _%_, _≤_}
 use native.Mathlib.Omega.{arith}
-use lib.Dec.{eqb, leb}
-use lib.ListN.{length, take}
-use lib.Seq.{take-all}
-use borrow.Author.Tests.{eq-eqb, ne-eqb, leb-true, leb-false}
+use lib.Dec.{eqb}
+use lib.ListN.{length}
+use borrow.Author.Tests.{eq-eqb, ne-eqb}
 use Rattle.refusals.specs.Numbers.{unknownType}
 use Rattle.crc.specs.Crc.{linkStart, crcOf}
 use Rattle.frame.specs.Stuffing.{stuff}
@@ -99,17 +99,3 @@ module _ (c : List ℕ) (previous : Last) (before : Counts) where
         → frameOutcome c previous before ≡ refusedFrame unknownType previous before
     unfolding frameOutcome
     frame-unknown other neither = rw (e, ne-eqb kind dataType other, ne-eqb kind acknowledgementType neither)
-
--- a length past the end is the end
-pub take-within : (xs : List ℕ) (n m : ℕ) → m ≡ min n (length xs) → take m xs ≡ take n xs
-take-within xs n m e = cases (leb (length xs) n) refl
-  where
-    cases : (t : Bool) → leb (length xs) n ≡ t → take m xs ≡ take n xs
-    cases true f =
-        let past : length xs ≤ n = leb-true _ _ f in
-        let all : length xs ≤ m = omega arith in
-        take-all m xs all ∙ sym (take-all n xs past)
-    cases false f =
-        let inside : n < length xs = leb-false _ _ f in
-        let same : m ≡ n = omega arith in
-        rw same

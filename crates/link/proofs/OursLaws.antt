@@ -1,4 +1,5 @@
--- A fresh start and each call give a link state whose content is whole and whose length is within it.
+-- A fresh start and each call give a link state whose content is whole and whose length is within it, since a byte is stored
+-- only while there is room.
 use mathlib.Core.Path.{_≡_, refl, sym, _∙_}
 use mathlib.Core.Bool.{Bool, true, false}
 use mathlib.Core.List.{List, [], _∷_}

@@ -1,4 +1,4 @@
--- One byte that is no flag, one law for each way that the reader goes.
+-- One byte that is no flag, one law for each way that the reader goes: its phase and what the byte means settle the step.
 use mathlib.Core.Path.{_≡_, refl}
 use mathlib.Core.List.{List, [], _∷_}
 use Prim.Native.Nat.{ℕ, suc, _≤_, _<_}

@@ -1,4 +1,5 @@
--- A call, one law for each way through the code.
+-- A call, one law for each way through the code: the room in the two buffers settles whether it is refused, and otherwise the
+-- walk and the frame that it ended make it.
 use mathlib.Core.Path.{_≡_}
 use mathlib.Core.List.{List, []}
 use Prim.Native.Nat.{ℕ, _≤_, _<_}

@@ -18,7 +18,7 @@ use refusals::LOADED_ACKNOWLEDGEMENT;
 use refusals::SHORT_OUTPUT;
 use refusals::UNKNOWN_TYPE;
 ghost use mathlib.Core.Path.{_≡_};
-ghost use Prim.Native.Nat.{_≤_, min};
+ghost use Prim.Native.Nat.{_≤_};
 ghost use lib.ListN.{length};
 ghost use Rattle.link.specs.Closing.{replyRoom, repeats, refusedFrame, acknowledgementFrame, dataFrame, frameOutcome, closeOf, closedBy, ClosesAs, AcknowledgesAs};
 ghost use Rattle.link.specs.Receiving.{freshLink, withUnreadPacket, shortReceived, receiveOf, ReceivesAs};
@@ -157,17 +157,10 @@ fn close(
         },
         Ended::Refused(number) => refuse(number, last, counts),
         Ended::Content(length) => {
-            let end = within(length, content.len());
-            take_frame(&content[..end], last, counts, reply, packet)
+            let whole = slices::first(content, length);
+            take_frame(whole, last, counts, reply, packet)
         }
     }
-}
-
-// The smaller of the two.
-fn within(length: usize, room: usize) -> usize
-    ensures { λ r. ⌜ r ≡ min length room ⌝ }
-{
-    if length < room { length } else { room }
 }
 
 // Counts a frame that is refused.

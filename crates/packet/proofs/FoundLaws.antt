@@ -13,8 +13,8 @@ use Rattle.refusals.specs.Numbers.{noDataPacket}
 use Rattle.packet.specs.Items.{Item, itemsOf, itemBytes, itemsBytes, headOf, firstOf, behindOf}
 use Rattle.packet.specs.Packet.{refused, isData, withItems, packetOf, judgedItems, packetItems}
 use Rattle.packet.specs.Answers.{placed, past, headIn, findIn, behindIn, itemAt}
-use Rattle.packet.specs.declared.Found.{Found}
-use Rattle.packet.specs.declared.Found.the-variants.{At, Nothing}
+use Rattle.packet.specs.declared.items.Found.{Found}
+use Rattle.packet.specs.declared.items.Found.the-variants.{At, Nothing}
 use Rattle.packet.proofs.ItemLaws.{items-fill, items-few}
 use Rattle.packet.proofs.PacketLaws.{data-length}
 

@@ -9,46 +9,40 @@ use lib.Dec.{leb, eqb}
 use lib.ListN.{length, getD, drop}
 use borrow.Author.Tests.{leb-true}
 use Rattle.refusals.specs.Numbers.{noDataPacket}
+use Rattle.slices.proofs.TestLaws.{both}
 use Rattle.packet.specs.Items.{Item, itemsOf, countOf}
 use Rattle.packet.specs.Packet.{refused, isData, withItems, packetOf, judgedItems, packetItems}
 use Rattle.packet.specs.Answers.{readingOf, findIn, behindIn}
-use Rattle.packet.specs.Walk.{tallyOf, packetTally}
-use Rattle.packet.specs.declared.Found.{Found}
-use Rattle.packet.specs.declared.Reading.the-variants.{Packet, Refused}
-use Rattle.packet.specs.declared.Tally.the-variants.{Items, Broken}
-use Rattle.packet.proofs.WalkLaws.{both}
+use Rattle.packet.specs.Walk.{tallyOf, packetTally, surveyOf}
+use Rattle.packet.specs.declared.items.Found.{Found}
+use Rattle.packet.specs.declared.items.Found.the-variants.{Nothing}
+use Rattle.packet.specs.declared.reading.Reading.the-variants.{Packet, Refused}
+use Rattle.packet.specs.declared.items.Tally.the-variants.{Items, Broken}
 
 -- a data packet has its first four bytes
 pub data-length : (bytes : List ℕ) → isData bytes ≡ true → 4 ≤ length bytes
 unfolding isData
 data-length bytes h = leb-true 4 (length bytes) (both (leb 4 (length bytes)) (eqb (getD bytes 0 0) 1) h .first)
 
--- what the counts and places of a tally say of the items
-pub record Told (kind : ℕ) (items : List Item) (all count : ℕ) (first behind : Found) : Type 0 where
-  pub all-told : all ≡ length items
-  pub count-told : count ≡ countOf kind items
-  pub first-told : first ≡ findIn 4 kind items
-  pub behind-told : behind ≡ behindIn 4 kind items
-
 module _ (opcode id kind : ℕ) where
-  told-by : (t : Bool) (read : Option (List Item)) (all count : ℕ) (first behind head : Found) →
+  told-by : (t : Bool) (read : Option (List Item)) {all count : ℕ} {first behind head : Found} →
       cond t (tallyOf 4 kind read) Broken ≡ Items all count first behind head
-      → Told kind (judgedItems (cond t (withItems opcode id read) (refused noDataPacket))) all count first behind
+      → record { all = all; count = count; first = first; behind = behind } ≡ surveyOf kind (judgedItems (cond t (withItems opcode id read) (refused noDataPacket)))
   unfolding tallyOf withItems judgedItems
-  told-by false read all count first behind head e = let z : _≡_ {A = ℕ} 0 1 = cc in absurd (omega arith)
-  told-by true none all count first behind head e = let z : _≡_ {A = ℕ} 0 1 = cc in absurd (omega arith)
-  told-by true (some items) all count first behind head e = record { all-told = cc; count-told = cc; first-told = cc; behind-told = cc }
+  told-by false read e = let z : _≡_ {A = ℕ} 0 1 = cc in absurd (omega arith)
+  told-by true none e = let z : _≡_ {A = ℕ} 0 1 = cc in absurd (omega arith)
+  told-by true (some items) e = cc
 
-  empty-by : (t : Bool) (read : Option (List Item)) → cond t (tallyOf 4 kind read) Broken ≡ Broken → judgedItems (cond t (withItems opcode id read) (refused noDataPacket)) ≡ []
+  broken-by : (t : Bool) (read : Option (List Item)) → cond t (tallyOf 4 kind read) Broken ≡ Broken → surveyOf kind [] ≡ surveyOf kind (judgedItems (cond t (withItems opcode id read) (refused noDataPacket)))
   unfolding tallyOf withItems judgedItems
-  empty-by false read e = refl
-  empty-by true none e = refl
-  empty-by true (some items) e = let z : _≡_ {A = ℕ} 0 1 = cc in absurd (omega arith)
+  broken-by false read e = refl
+  broken-by true none e = refl
+  broken-by true (some items) e = let z : _≡_ {A = ℕ} 0 1 = cc in absurd (omega arith)
 
-  read-by : (read : Option (List Item)) (all count : ℕ) (first behind head : Found) → tallyOf 4 kind read ≡ Items all count first behind head → readingOf (withItems opcode id read) ≡ Packet opcode id
+  read-by : (read : Option (List Item)) {all count : ℕ} {first behind head : Found} → tallyOf 4 kind read ≡ Items all count first behind head → readingOf (withItems opcode id read) ≡ Packet opcode id
   unfolding tallyOf withItems readingOf
-  read-by none all count first behind head e = let z : _≡_ {A = ℕ} 0 1 = cc in absurd (omega arith)
-  read-by (some items) all count first behind head e = refl
+  read-by none e = let z : _≡_ {A = ℕ} 0 1 = cc in absurd (omega arith)
+  read-by (some items) e = refl
 
   refused-by : (read : Option (List Item)) → tallyOf 4 kind read ≡ Broken → readingOf (withItems opcode id read) ≡ Refused 10
   unfolding tallyOf withItems readingOf
@@ -56,14 +50,14 @@ module _ (opcode id kind : ℕ) where
   refused-by (some items) e = let z : _≡_ {A = ℕ} 0 1 = cc in absurd (omega arith)
 
 module _ (bytes : List ℕ) (kind : ℕ) where
-  pub tally-told : (all count : ℕ) (first behind head : Found) → packetTally kind bytes ≡ Items all count first behind head → Told kind (packetItems bytes) all count first behind
+  -- what the reader found is what there is
+  pub tally-told : {all count : ℕ} {first behind head : Found} → packetTally kind bytes ≡ Items all count first behind head → record { all = all; count = count; first = first; behind = behind } ≡ surveyOf kind (packetItems bytes)
   unfolding packetTally packetItems packetOf
-  tally-told all count first behind head e =
-      told-by (getD bytes 1 0) (getD bytes 2 0 * 256 + getD bytes 3 0) kind (isData bytes) (itemsOf (drop 4 bytes)) all count first behind head e
+  tally-told e = told-by (getD bytes 1 0) (getD bytes 2 0 * 256 + getD bytes 3 0) kind (isData bytes) (itemsOf (drop 4 bytes)) e
 
-  pub tally-empty : packetTally kind bytes ≡ Broken → packetItems bytes ≡ []
-  unfolding packetTally packetItems packetOf
-  tally-empty e = empty-by (getD bytes 1 0) (getD bytes 2 0 * 256 + getD bytes 3 0) kind (isData bytes) (itemsOf (drop 4 bytes)) e
+  pub tally-broken : packetTally kind bytes ≡ Broken → record { all = 0; count = 0; first = Nothing; behind = Nothing } ≡ surveyOf kind (packetItems bytes)
+  unfolding packetTally packetItems packetOf countOf findIn behindIn
+  tally-broken e = broken-by (getD bytes 1 0) (getD bytes 2 0 * 256 + getD bytes 3 0) kind (isData bytes) (itemsOf (drop 4 bytes)) e
 
   -- the three answers of the packet reader
   pub reading-no-data : isData bytes ≡ false → Refused 9 ≡ readingOf (packetOf bytes)
@@ -76,8 +70,8 @@ module _ (bytes : List ℕ) (kind : ℕ) where
       let t : tallyOf 4 kind (itemsOf (drop 4 bytes)) ≡ Broken = rw h at e in
       rw h (sym (refused-by (getD bytes 1 0) (getD bytes 2 0 * 256 + getD bytes 3 0) kind (itemsOf (drop 4 bytes)) t))
 
-  pub reading-packet : (all count : ℕ) (first behind head : Found) → isData bytes ≡ true → packetTally kind bytes ≡ Items all count first behind head → Packet (getD bytes 1 0) (getD bytes 2 0 * 256 + getD bytes 3 0) ≡ readingOf (packetOf bytes)
+  pub reading-packet : {all count : ℕ} {first behind head : Found} → isData bytes ≡ true → packetTally kind bytes ≡ Items all count first behind head → Packet (getD bytes 1 0) (getD bytes 2 0 * 256 + getD bytes 3 0) ≡ readingOf (packetOf bytes)
   unfolding packetOf packetTally
-  reading-packet all count first behind head h e =
-      let t : tallyOf 4 kind (itemsOf (drop 4 bytes)) ≡ Items all count first behind head = rw h at e in
-      rw h (sym (read-by (getD bytes 1 0) (getD bytes 2 0 * 256 + getD bytes 3 0) kind (itemsOf (drop 4 bytes)) all count first behind head t))
+  reading-packet h e =
+      let t = rw h at e in
+      rw h (sym (read-by (getD bytes 1 0) (getD bytes 2 0 * 256 + getD bytes 3 0) kind (itemsOf (drop 4 bytes)) t))

@@ -1,4 +1,5 @@
--- Counts and picks over a list of items, however it was read: the first item of a kind, the only one, and what stands behind it.
+-- Counts and picks over a list of items, however it was read, go item by item: the first item of a kind, the only one, and what
+-- stands behind it.
 use mathlib.Core.Path.{_≡_, refl, sym, ap, _∙_}
 use mathlib.Core.Bool.{Bool, true, false, cond}
 use mathlib.Core.List.{List, [], _∷_, _++_}

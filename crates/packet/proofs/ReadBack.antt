@@ -16,9 +16,9 @@ use Rattle.packet.specs.Items.{Item, inFront, emptyIfEof, eofsEmpty, ifE
 use Rattle.packet.specs.Packet.{Packet, packet, isData, withItems, packetOf, packetBytes}
 use Rattle.packet.specs.Names.{validName, validLocation}
 use Rattle.packet.specs.Requests.{refusedBy, fitted, answerOf, bytesOf, Writes, nameItem, locationItem, offsetItem, offsetItems, getPacket, filePacket, fetchedPacket, stopPacket, propertyGet, fileRequest, fetchedRequest, stopRequest}
-use Rattle.packet.specs.declared.Offset.{Offset}
-use Rattle.packet.specs.declared.Offset.the-variants.{Given, Omitted}
-use Rattle.packet.specs.declared.Written.the-variants.{Length}
+use Rattle.packet.specs.declared.requests.Offset.{Offset}
+use Rattle.packet.specs.declared.requests.Offset.the-variants.{Given, Omitted}
+use Rattle.packet.specs.declared.requests.Written.the-variants.{Length}
 use Rattle.packet.proofs.ItemLaws.{items-end, items-rule}
 
 -- items as they are sent are filled by those items

@@ -9,25 +9,18 @@ use lib.Dec.{leb, eqb}
 use lib.ListN.{length, getD, take, drop, length-drop}
 use lib.Seq.{length-take-le, take-all}
 use borrow.Author.Tests.{le-leb, leb-true}
+use Rattle.slices.proofs.TestLaws.{Both, both}
 use Rattle.packet.specs.Items.{Item, inFront, eofKind, emptyIfEof, itemsOf, countOf}
 use Rattle.packet.specs.Answers.{placed, past, headIn, findIn, behindIn}
 use Rattle.packet.specs.Walk.{Countable, beginsWithItem, withItem, tallyOf}
-use Rattle.packet.specs.declared.Found.the-variants.{At, Nothing}
-use Rattle.packet.specs.declared.Tally.{Tally}
-use Rattle.packet.specs.declared.Tally.the-variants.{Items, Broken}
+use Rattle.packet.specs.declared.items.Found.the-variants.{At, Nothing}
+use Rattle.packet.specs.declared.items.Tally.{Tally}
+use Rattle.packet.specs.declared.items.Tally.the-variants.{Items, Broken}
 use Rattle.packet.proofs.ItemLaws.{good-end, good-cut, good-rule, items-few, count-few}
 
 -- the item that bytes begin with
 abbrev pub firstItem : List ℕ → Item
 firstItem bytes = record { kind = getD bytes 0 0; value = take (getD bytes 1 0) (drop 2 bytes) }
-
-pub record Both (t u : Bool) : Type 0 where
-  pub first : t ≡ true
-  pub second : u ≡ true
-
-pub both : (t u : Bool) → (t && u) ≡ true → Both t u
-both true u h = record { first = refl; second = h }
-both false u h = let z : _≡_ {A = ℕ} 0 1 = cc in absurd (omega arith)
 
 -- the tests that bytes pass which begin with an item
 abbrev two : List ℕ → Bool
@@ -39,7 +32,7 @@ room bytes = leb (getD bytes 1 0 + 2) (length bytes)
 abbrev eof : List ℕ → Bool
 eof bytes = cond (eqb (getD bytes 0 0) eofKind) (eqb (getD bytes 1 0) 0) true
 
-tests : (bytes : List ℕ) → beginsWithItem bytes ≡ true → Both (room bytes) (eof bytes)
+tests : (bytes : List ℕ) → beginsWithItem bytes ≡ true → Both (room bytes) (eof bytes) true
 unfolding beginsWithItem
 tests bytes h = both (room bytes) (eof bytes) (both (two bytes) (room bytes && eof bytes) h .second)
 

@@ -1,20 +1,16 @@
 -- What the request writers do, over plain lists: a refusal keeps the output, and strings put one behind the other are the
 -- strings joined.
 use mathlib.Core.Path.{_≡_, sym, ap, _∙_}
-use mathlib.Core.Bool.{true, _&&_}
 use mathlib.Core.List.{List, [], _++_}
 use Prim.Native.Nat.{ℕ, _+_, _≤_, _<_}
 use native.Mathlib.Omega.{arith}
-use lib.Dec.{leb}
-use lib.ListN.{length, getD, length-append}
-use borrow.Author.Tests.{le-leb, lt-leb, leb-true}
+use lib.ListN.{length, length-append}
+use borrow.Author.Tests.{le-leb, lt-leb}
 use Rattle.slices.specs.Put.{putAt}
 use Rattle.slices.proofs.PutLaws.{put-append}
-use Rattle.packet.specs.Names.{between, isLetter, allNameBytes, validName, validLocation}
 use Rattle.packet.specs.Packet.{withHead}
 use Rattle.packet.specs.Requests.{Output, wrote, refusedBy, fitted, answerOf, bytesOf, Writes}
-use Rattle.packet.specs.declared.Written.the-variants.{Length, Refused}
-use Rattle.packet.proofs.WalkLaws.{both}
+use Rattle.packet.specs.declared.requests.Written.the-variants.{Length, Refused}
 
 -- a refusal answers its number and changes nothing
 pub writes-nothing : (output : Output) (number : ℕ) (d : List ℕ) → output ≡ refusedBy number → Writes output d d (Refused number)
@@ -61,14 +57,3 @@ module _ (opcode id : ℕ) (front value further : List ℕ) where
       let p₃ : d₃ ≡ putAt d 0 (withHead opcode id (front ++ value)) = e₃ ∙ ap (λ (l : List ℕ). putAt l (4 + length front) value) p₂ ∙ rw (← second) (put-append d 0 (withHead opcode id front) value) in
       let p₄ : d₄ ≡ putAt d 0 (withHead opcode id (front ++ value ++ further)) = e₄ ∙ ap (λ (l : List ℕ). putAt l (4 + length front + length value) further) p₃ ∙ rw (← third) (put-append d 0 (withHead opcode id (front ++ value)) further) in
       writes-bytes _ (withHead opcode id (front ++ value ++ further)) d d₄ _ (rw (le-leb (length (withHead opcode id (front ++ value ++ further))) (length d) room)) (sym size) p₄
-
--- a valid name or location has a length that a byte holds
-pub name-short : (name : List ℕ) → validName name ≡ true → length name ≤ 27
-unfolding validName between
-name-short name h =
-    leb-true (length name) 27
-    (both (leb 1 (length name)) (leb (length name) 27) (both (leb 1 (length name) && leb (length name) 27) (isLetter (getD name 0 0)) (both (leb 1 (length name) && leb (length name) 27 && isLetter (getD name 0 0)) (allNameBytes name) h .first) .first) .second)
-
-pub location-short : (location : List ℕ) → validLocation location ≡ true → length location ≤ 64
-unfolding validLocation between
-location-short location h = leb-true (length location) 64 (both (leb 1 (length location)) (leb (length location) 64) h .second)

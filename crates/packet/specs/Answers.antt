@@ -7,10 +7,10 @@ use lib.Dec.{eqb}
 use lib.ListN.{length, take, drop}
 use Rattle.packet.specs.Items.{Item}
 use Rattle.packet.specs.Packet.{Judged, packet, refused}
-use Rattle.packet.specs.declared.Reading.{Reading}
-use Rattle.packet.specs.declared.Reading.the-variants.{Packet, Refused}
-use Rattle.packet.specs.declared.Found.{Found}
-use Rattle.packet.specs.declared.Found.the-variants.{At, Nothing}
+use Rattle.packet.specs.declared.reading.Reading.{Reading}
+use Rattle.packet.specs.declared.reading.Reading.the-variants.{Packet, Refused}
+use Rattle.packet.specs.declared.items.Found.{Found}
+use Rattle.packet.specs.declared.items.Found.the-variants.{At, Nothing}
 
 -- the packet reader's answer: opcode and id, or 01's number
 unfoldable pub readingOf : Judged → Reading

@@ -8,9 +8,10 @@ use lib.ListN.{length, getD, drop}
 use Rattle.packet.specs.Items.{Item, eofKind, countOf, itemsOf}
 use Rattle.packet.specs.Packet.{isData}
 use Rattle.packet.specs.Answers.{headIn, findIn, behindIn}
-use Rattle.packet.specs.declared.Found.{Found}
-use Rattle.packet.specs.declared.Tally.{Tally}
-use Rattle.packet.specs.declared.Tally.the-variants.{Items, Broken}
+use Rattle.packet.specs.declared.items.Found.{Found}
+use Rattle.packet.specs.declared.reading.Survey.{Survey}
+use Rattle.packet.specs.declared.items.Tally.{Tally}
+use Rattle.packet.specs.declared.items.Tally.the-variants.{Items, Broken}
 
 -- a type byte, a length byte N, and N bytes behind them: none if the type is EOF
 unfoldable pub beginsWithItem : List ℕ → Bool
@@ -38,3 +39,8 @@ tallyOf at kind (some items) =
 -- the same of a packet, whose items stand behind its first four bytes
 unfoldable pub packetTally : ℕ → List ℕ → Tally
 packetTally kind bytes = cond (isData bytes) (tallyOf 4 kind (itemsOf (drop 4 bytes))) Broken
+
+-- what the items are to the kind, in a packet whose items stand from the fifth byte on
+abbrev pub surveyOf : ℕ → List Item → Survey
+surveyOf kind items =
+    record { all = length items; count = countOf kind items; first = findIn 4 kind items; behind = behindIn 4 kind items }

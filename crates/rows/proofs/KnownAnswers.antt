@@ -1,4 +1,4 @@
--- 01, Known answers, 10: age 29 is current, the next tick gives silent.
+-- 01, Known answers, 10: age 29 is current, the next tick gives silent, both computed from the definition.
 use mathlib.Core.Path.{_≡_, refl}
 use lib.IntN.{ℤ}
 use Rattle.rows.specs.Rows.{tickState}

@@ -54,6 +54,13 @@ pub fn tick(board: Board) -> Board
     next
 }
 
+// The board that is lent, after a tick.
+pub fn tick_in_place(board: &mut Board)
+    ensures { λ _. ⌜ now (board .exit) ≡ tickBoard (now (board .entry)) ⌝ }
+{
+    *board = tick(*board);
+}
+
 fn tick_row(row: Row) -> Row
     ensures { λ r. ⌜ r ≡ tickRow row ⌝ }
 {
@@ -112,8 +119,8 @@ fn has_name(row: Row, name: &[u8]) -> bool
     ensures { λ r. ⌜ r ≡ sameBytes (rowName row) (now (name .entry)) ⌝ }
 {
     let bytes = row.name;
-    let length = name_length(row);
-    slices::same(&bytes[..length], name)
+    let own = slices::first(&bytes, row.length);
+    slices::same(own, name)
 }
 
 // How many bytes the name of the row has.

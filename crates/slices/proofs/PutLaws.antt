@@ -1,12 +1,12 @@
 -- The laws of `putAt` that callers cite: a refusal keeps the buffer, what stands before and beyond stays, the first bytes are
 -- those that were put. Each goes through the stores one by one.
-use mathlib.Core.Path.{_≡_, refl, sym, ap, _∙_}
-use mathlib.Core.List.{List, [], _∷_, _++_, append-nil}
+use mathlib.Core.Path.{_≡_, refl, ap, _∙_}
+use mathlib.Core.List.{List, [], _∷_, _++_}
 use Prim.Native.Nat.{ℕ, suc, _+_, _≤_, min}
 use native.Mathlib.Nat.{zero-min, min-zero, suc-min-suc}
 use native.Mathlib.Omega.{arith}
-use lib.ListN.{length, take, drop, set, length-set}
-use lib.Seq.{sets, length-sets, sets-eq, set-out, take-set-le, drop-set-lt, take-at}
+use lib.ListN.{length, take, drop, set}
+use lib.Seq.{length-sets, sets-eq, set-out, take-set-le, drop-set-lt, take-at}
 use Rattle.slices.specs.Put.{putAt}
 
 -- no bytes put, as at a refusal: the buffer is as it was

@@ -1,6 +1,7 @@
 // Bytes put into a lent buffer, and byte slices compared.
 ghost use mathlib.Core.Path.{_≡_};
 ghost use Prim.Native.Nat.{_-_, min};
+ghost use lib.ListN.{take};
 ghost use Rattle.slices.specs.Put.{putAt};
 ghost use Rattle.slices.specs.Same.{sameBytes};
 
@@ -26,6 +27,16 @@ fn fitting(size: usize, at: usize, wanted: usize) -> usize
     }
     let room = size - at;
     if wanted < room { wanted } else { room }
+}
+
+// The first `count` bytes of a slice; all of it where it has no more.
+pub fn first(s: &[u8], count: usize) -> &[u8]
+    ensures { λ r. ⌜ now r ≡ take count (now (s .entry)) ⌝ }
+{
+    if count < s.len() {
+        return &s[..count];
+    }
+    s
 }
 
 // Whether the two slices hold the same bytes.

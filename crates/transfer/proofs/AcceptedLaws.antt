@@ -1,6 +1,6 @@
 -- What an accepted fragment has passed: each test that could have refused it, read back from the verdict.
 use mathlib.Core.Path.{_≡_, refl, sym, ap, _∙_}
-use mathlib.Core.Bool.{Bool, true, false, cond, not, _&&_, _||_}
+use mathlib.Core.Bool.{Bool, true, false, cond, not}
 use mathlib.Core.List.{List}
 use Prim.Native.Nat.{ℕ, _+_, _≤_}
 use native.Mathlib.Omega.{arith}
@@ -8,17 +8,18 @@ use lib.Dec.{eqb, ltb}
 use lib.ListN.{length}
 use borrow.Author.Tests.{eqb-true, ltb-false, not-true}
 use Rattle.slices.specs.Same.{sameBytes}
+use Rattle.slices.proofs.TestLaws.{both, neither}
 use Rattle.packet.specs.Items.{Item}
 use Rattle.packet.specs.Packet.{Judged, packet, refused, judgedItems}
 use Rattle.transfer.specs.Fragment.{binaryKind, locationKind, valueIn, formOf}
-use Rattle.transfer.specs.Transfer.{fragmentOpcode, locationOf, knownLength, passesLength, endsEarly, judgeEnd, judgeForm, verdictOf}
-use Rattle.transfer.specs.declared.Declared.{Declared}
-use Rattle.transfer.specs.declared.Declared.the-variants.{Known}
-use Rattle.transfer.specs.declared.Form.{Form}
-use Rattle.transfer.specs.declared.Form.the-variants.{Good, Bad}
-use Rattle.transfer.specs.declared.Verdict.{Verdict}
-use Rattle.transfer.specs.declared.Verdict.the-variants.{Accepted, Refused}
-use Rattle.transfer.specs.declared.Transfer.{Transfer}
+use Rattle.transfer.specs.Transfer.{fragmentOpcode, locationOf, knownLength, passesLength, isLong, goesOn, endsEarly, judgeEnd, judgeForm, verdictOf}
+use Rattle.transfer.specs.declared.state.Declared.{Declared}
+use Rattle.transfer.specs.declared.state.Declared.the-variants.{Known}
+use Rattle.transfer.specs.declared.fragment.Form.{Form}
+use Rattle.transfer.specs.declared.fragment.Form.the-variants.{Good, Bad}
+use Rattle.transfer.specs.declared.judging.Verdict.{Verdict}
+use Rattle.transfer.specs.declared.judging.Verdict.the-variants.{Accepted, Refused}
+use Rattle.transfer.specs.declared.state.Transfer.{Transfer}
 
 -- an accepted fragment of the transfer: it stands at the next offset, ends within the buffer and the declared length, and is
 -- the last only where it reaches that length
@@ -30,17 +31,10 @@ pub record AcceptedBy (transfer : Transfer) (room count offset next : ℕ) (decl
   pub in-length : passesLength declared next room ≡ false
   pub not-early : endsEarly declared last next ≡ false
 
-record Both (t u s : Bool) : Type 0 where
-  first : t ≡ s
-  second : u ≡ s
-
-both : (t u : Bool) → (t && u) ≡ true → Both t u true
-both true u h = record { first = refl; second = h }
-both false u h = let z : _≡_ {A = ℕ} 0 1 = cc in absurd (omega arith)
-
-neither : (t u : Bool) → (t || u) ≡ false → Both t u false
-neither true u h = let z : _≡_ {A = ℕ} 0 1 = cc in absurd (omega arith)
-neither false u h = record { first = refl; second = h }
+-- a fragment that is not too long ends within the buffer
+pub short-fits : (room offset count : ℕ) (declared : Declared) → isLong room offset count declared ≡ false → offset + count ≤ room
+unfolding isLong
+short-fits room offset count declared h = ltb-false room (offset + count) (neither (ltb room (offset + count)) (passesLength declared (offset + count) room) h .first)
 
 module _ (offset next : ℕ) (declared : Declared) (last : Bool) where
   abbrev Accepts : Verdict → Type 0
@@ -64,9 +58,9 @@ module _ (offset next : ℕ) (declared : Declared) (last : Bool) where
     count = length (valueIn binaryKind items)
 
     accepted-end : (at : ℕ) (length-known : Declared) (end : Bool) → at ≡ transfer .next → transfer .complete ≡ false → Accepts (judgeEnd room at count length-known end) → AcceptedBy transfer room count offset next declared last
-    unfolding judgeEnd
+    unfolding judgeEnd isLong
     accepted-end at length-known end is-next going e =
-        let fits = passed (ltb room (at + count) || passesLength length-known (at + count) room) _ 18 e in
+        let fits = passed (isLong room at count length-known) _ 18 e in
         let late = passed (endsEarly length-known end (at + count)) _ 19 (fits .on) in
         let tests = neither (ltb room (at + count)) (passesLength length-known (at + count) room) (fits .test) in
         let o : at ≡ offset = cc (late .on) in
@@ -83,13 +77,13 @@ module _ (offset next : ℕ) (declared : Declared) (last : Bool) where
         }
 
     accepted-form : (form : Form) → Accepts (judgeForm transfer room items form) → AcceptedBy transfer room count offset next declared last
-    unfolding judgeForm
+    unfolding judgeForm goesOn
     accepted-form Bad e = let z : _≡_ {A = ℕ} 0 1 = cc in absurd (omega arith)
     accepted-form (Good at length-declared end) e =
         let ours = kept (sameBytes (valueIn locationKind items) (locationOf transfer)) _ 16 e in
-        let going = kept (eqb at (transfer .next) && not (transfer .complete)) _ 17 (ours .on) in
-        let tests = both (eqb at (transfer .next)) (not (transfer .complete)) (going .test) in
-        accepted-end at (knownLength length-declared (transfer .declared)) end (eqb-true at (transfer .next) (tests .first)) (not-true (transfer .complete) (tests .second)) (going .on)
+        let going = kept (goesOn transfer at) _ 17 (ours .on) in
+        let tests = both (not (transfer .complete)) (eqb at (transfer .next)) (going .test) in
+        accepted-end at (knownLength length-declared (transfer .declared)) end (eqb-true at (transfer .next) (tests .second)) (not-true (transfer .complete) (tests .first)) (going .on)
 
   pub accepted : (transfer : Transfer) (room : ℕ) (j : Judged) → verdictOf transfer room j ≡ Accepted offset next declared last → AcceptedBy transfer room (length (valueIn binaryKind (judgedItems j))) offset next declared last
   unfolding verdictOf judgedItems

@@ -10,9 +10,9 @@ use lib.ListN.{length, getD}
 use borrow.Author.Tests.{eq-eqb, ne-eqb, lt-ltb, le-ltb, le-leb, lt-leb}
 use Rattle.packet.specs.Items.{Item, eofKind, countOf, firstOf}
 use Rattle.transfer.specs.Fragment.{binaryKind, offsetKind, lengthKind, locationKind, valueOf, valueIn, pairOf, numberOf, rightItems, isLast, rightBinary, rightLocation, declaring, formAt, formOf}
-use Rattle.transfer.specs.declared.Declared.the-variants.{Unknown}
-use Rattle.transfer.specs.declared.Number.the-variants.{Is, NoNumber}
-use Rattle.transfer.specs.declared.Form.the-variants.{Good, Bad}
+use Rattle.transfer.specs.declared.state.Declared.the-variants.{Unknown}
+use Rattle.transfer.specs.declared.fragment.Number.the-variants.{Is, NoNumber}
+use Rattle.transfer.specs.declared.fragment.Form.the-variants.{Good, Bad}
 
 -- the value of the first item of a kind, where there is one and where there is none
 module _ (kind : ℕ) (items : List Item) where

@@ -12,34 +12,24 @@ use Rattle.slices.specs.Same.{sameBytes}
 use Rattle.packet.specs.Items.{Item}
 use Rattle.packet.specs.Packet.{Judged, packet, refused, judgedItems, packetItems}
 use Rattle.packet.specs.Answers as packet-answers
-use Rattle.packet.specs.declared.Reading.the-variants as packet-reading
+use Rattle.packet.specs.declared.reading.Reading.the-variants as packet-reading
 use Rattle.transfer.specs.Fragment.{binaryKind, locationKind, valueIn, formOf}
-use Rattle.transfer.specs.Transfer.{fragmentOpcode, refusedWith, locationOf, knownLength, passesLength, endsEarly, judgeEnd, judgeForm, verdictOf, advanced, outcomeBy, fileBy, verdictFor, Takes}
-use Rattle.transfer.specs.declared.Declared.{Declared}
-use Rattle.transfer.specs.declared.Form.the-variants.{Good}
-use Rattle.transfer.specs.declared.Verdict.the-variants.{Accepted, Refused}
-use Rattle.transfer.specs.declared.Transfer.{Transfer}
-use Rattle.transfer.specs.declared.Answer.the-variants as answer
+use Rattle.transfer.specs.Transfer.{fragmentOpcode, refusedWith, locationOf, knownLength, passesLength, isLong, goesOn, judgeEnd, judgeForm, verdictOf, advanced, outcomeBy, fileBy, verdictFor, Takes}
+use Rattle.transfer.specs.declared.state.Declared.{Declared}
+use Rattle.transfer.specs.declared.fragment.Form.the-variants.{Good}
+use Rattle.transfer.specs.declared.judging.Verdict.the-variants.{Accepted, Refused}
+use Rattle.transfer.specs.declared.state.Transfer.{Transfer}
+use Rattle.transfer.specs.declared.taking.Answer.the-variants as answer
 
--- where a fragment ends
-module _ (room offset count : ℕ) (declared : Declared) (last : Bool) where
-  pub end-past-room : room < offset + count → judgeEnd room offset count declared last ≡ Refused 18
-  unfolding judgeEnd
-  end-past-room h = rw (lt-ltb room (offset + count) h)
+-- whether a fragment is too long
+module _ (room offset count : ℕ) (declared : Declared) where
+  pub long-past-room : room < offset + count → isLong room offset count declared ≡ true
+  unfolding isLong
+  long-past-room h = rw (lt-ltb room (offset + count) h)
 
-  module _ (fits : offset + count ≤ room) where
-    pub end-past-length : passesLength declared (offset + count) room ≡ true → judgeEnd room offset count declared last ≡ Refused 18
-    unfolding judgeEnd
-    end-past-length h = rw (le-ltb room (offset + count) fits, h)
-
-    module _ (within : passesLength declared (offset + count) room ≡ false) where
-      pub end-early : endsEarly declared last (offset + count) ≡ true → judgeEnd room offset count declared last ≡ Refused 19
-      unfolding judgeEnd
-      end-early h = rw (le-ltb room (offset + count) fits, within, h)
-
-      pub end-good : endsEarly declared last (offset + count) ≡ false → judgeEnd room offset count declared last ≡ Accepted offset (offset + count) declared last
-      unfolding judgeEnd
-      end-good h = rw (le-ltb room (offset + count) fits, within, h)
+  pub long-in-room : offset + count ≤ room → isLong room offset count declared ≡ passesLength declared (offset + count) room
+  unfolding isLong
+  long-in-room h = rw (le-ltb room (offset + count) h)
 
 -- a fragment of a good form
 module _ (transfer : Transfer) (room : ℕ) (items : List Item) (offset : ℕ) (declared : Declared) (last : Bool) where
@@ -48,18 +38,13 @@ module _ (transfer : Transfer) (room : ℕ) (items : List Item) (offset : ℕ) (
   form-other h = rw h
 
   module _ (ours : sameBytes (valueIn locationKind items) (locationOf transfer) ≡ true) where
-    pub form-gap : (offset ≡ transfer .next → ⊥) → judgeForm transfer room items (Good offset declared last) ≡ Refused 17
+    pub form-gap : goesOn transfer offset ≡ false → judgeForm transfer room items (Good offset declared last) ≡ Refused 17
     unfolding judgeForm
-    form-gap h = rw (ours, ne-eqb offset (transfer .next) h)
+    form-gap h = rw (ours, h)
 
-    module _ (next : offset ≡ transfer .next) where
-      pub form-complete : transfer .complete ≡ true → judgeForm transfer room items (Good offset declared last) ≡ Refused 17
-      unfolding judgeForm
-      form-complete h = rw (ours, eq-eqb offset (transfer .next) next, h)
-
-      pub form-next : transfer .complete ≡ false → judgeForm transfer room items (Good offset declared last) ≡ judgeEnd room offset (length (valueIn binaryKind items)) (knownLength declared (transfer .declared)) last
-      unfolding judgeForm
-      form-next h = rw (ours, eq-eqb offset (transfer .next) next, h)
+    pub form-next : goesOn transfer offset ≡ true → judgeForm transfer room items (Good offset declared last) ≡ judgeEnd room offset (length (valueIn binaryKind items)) (knownLength declared (transfer .declared)) last
+    unfolding judgeForm
+    form-next h = rw (ours, h)
 
 -- what the packet reader answered
 module _ (transfer : Transfer) (room : ℕ) where

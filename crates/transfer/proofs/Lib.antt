@@ -1,5 +1,5 @@
 pub mod AcceptedLaws
 pub mod FormLaws
 pub mod JudgeLaws
-pub mod LocationLaws
+pub mod FileCalls
 pub mod WholeFile

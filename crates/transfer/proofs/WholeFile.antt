@@ -3,7 +3,7 @@
 -- accepted fragment is put right behind those before it, and a refused packet changes nothing.
 use mathlib.Core.Path.{_≡_, refl, ap, _∙_}
 use mathlib.Core.Bool.{Bool, true, false, cond}
-use mathlib.Core.List.{List, [], _∷_, _++_, append-nil}
+use mathlib.Core.List.{List, [], _++_, append-nil}
 use Prim.Native.Nat.{ℕ, _+_, _≤_}
 use native.Mathlib.Omega.{arith}
 use lib.ListN.{length, take, drop, length-append}
@@ -14,13 +14,14 @@ use Rattle.packet.specs.Names.{validLocation}
 use Rattle.packet.specs.Packet.{packetOf, packetItems}
 use Rattle.transfer.specs.Fragment.{binaryKind, valueIn}
 use Rattle.transfer.specs.Transfer.{freshTransfer, refusedWith, startOf, outcomeBy, fileBy, verdictFor, Takes}
-use Rattle.transfer.specs.Calls.{Held, acceptedBytes, started, left, Calls, none, call}
-use Rattle.transfer.specs.declared.Answer.the-variants as answer
-use Rattle.transfer.specs.declared.Declared.{Declared}
-use Rattle.transfer.specs.declared.Declared.the-variants.{Known}
-use Rattle.transfer.specs.declared.Outcome.{Outcome}
-use Rattle.transfer.specs.declared.Verdict.{Verdict}
-use Rattle.transfer.specs.declared.Verdict.the-variants.{Accepted, Refused}
+use Rattle.transfer.specs.Calls.{Held, acceptedBytes, started, left}
+use Rattle.transfer.specs.declared.taking.Answer.the-variants as answer
+use Rattle.transfer.specs.declared.state.Declared.{Declared}
+use Rattle.transfer.specs.declared.state.Declared.the-variants.{Known}
+use Rattle.transfer.specs.declared.taking.Outcome.{Outcome}
+use Rattle.transfer.specs.declared.judging.Verdict.{Verdict}
+use Rattle.transfer.specs.declared.judging.Verdict.the-variants.{Accepted, Refused}
+use Rattle.transfer.proofs.FileCalls.{Starts, Calls, none, call, was-started, was-taken}
 use Rattle.transfer.proofs.AcceptedLaws.{AcceptedBy, accepted, last-reaches}
 
 -- what holds between the calls: the joined fragments lie at the start of the first buffer, next is their number, and a
@@ -40,10 +41,15 @@ module _ (first : List ℕ) (held : Held) (holds : Holds first held) (bytes : Li
   abbrev leftBy : Verdict → Held
   leftBy v = left held bytes (fileBy (held .file) value v) (outcomeBy (held .transfer) v)
 
+  -- a refused packet adds nothing to what is joined
+  same-joined : (number : ℕ) → leftBy (Refused number) .joined ≡ held .joined
+  unfolding outcomeBy acceptedBytes
+  same-joined number = append-nil (held .joined)
+
   refused-holds : (number : ℕ) → Holds first (leftBy (Refused number))
-  unfolding outcomeBy fileBy acceptedBytes
+  unfolding outcomeBy fileBy
   refused-holds number =
-      rw (append-nil (held .joined))
+      rw (same-joined number)
       record { laid = holds .laid; counted = holds .counted; fits = holds .fits; whole = holds .whole }
 
   accepted-holds : (offset next : ℕ) (declared : Declared) (last : Bool) → verdictFor (held .transfer) bytes (held .file) ≡ Accepted offset next declared last → Holds first (leftBy (Accepted offset next declared last))
@@ -73,10 +79,10 @@ module _ (first : List ℕ) (held : Held) (holds : Holds first held) (bytes : Li
 calls-hold : (first : List ℕ) (held end : Held) (packets : List (List ℕ)) → Holds first held → Calls held packets end → Holds first end
 calls-hold first held end packets holds (none same) = holds
 calls-hold first held end packets holds (call same last bytes after outcome more takes calls) =
-    calls-hold first (left held bytes after outcome) end more (call-holds first held holds bytes after outcome takes) calls
+    calls-hold first (left held bytes after outcome) end more (call-holds first held holds bytes after outcome (was-taken takes)) calls
 
 -- a transfer that has just been started, whether its location is valid or not
-start-holds : (location file : List ℕ) → Holds file (started location file)
+start-holds : (location file : List ℕ) → Holds file (started (startOf location) file)
 unfolding startOf
 start-holds location file = cases (validLocation location)
   where
@@ -94,9 +100,9 @@ start-holds location file = cases (validLocation location)
     cases false = fresh []
 
 -- calls with any packets on a transfer of the file at a location, with a file buffer that nothing else touches
-module _ (location file : List ℕ) (packets : List (List ℕ)) (end : Held) (calls : Calls (started location file) packets end) where
+module _ (location file : List ℕ) (first : Outcome) (starts : Starts location first) (packets : List (List ℕ)) (end : Held) (calls : Calls (started first file) packets end) where
   holds-at-end : Holds file end
-  holds-at-end = calls-hold file (started location file) end packets (start-holds location file) calls
+  holds-at-end = calls-hold file (started first file) end packets (rw (was-started starts) (start-holds location file)) calls
 
   -- 01, File fragments: the first "next" bytes are the fragments joined
   pub first-bytes-are-the-accepted-fragments-joined : take (end .transfer .next) (end .file) ≡ end .joined
@@ -112,20 +118,3 @@ module _ (location file : List ℕ) (packets : List (List ℕ)) (end : Held) (ca
 
   pub completed-file-has-the-declared-length : (total : ℕ) → end .transfer .complete ≡ true → end .transfer .declared ≡ Known total → end .transfer .next ≡ total
   completed-file-has-the-declared-length = holds-at-end .whole
-
--- such calls there are for every list of packets, so the theorem speaks of each
-pub record Answered (held : Held) (packets : List (List ℕ)) : Type 0 where
-  pub end : Held
-  pub calls : Calls held packets end
-
-pub every-list-is-answered : (packets : List (List ℕ)) (held : Held) → Answered held packets
-every-list-is-answered [] held = record { end = held; calls = none held }
-every-list-is-answered (bytes ∷ packets) held =
-    let verdict = verdictFor (held .transfer) bytes (held .file) in
-    let outcome : Outcome = outcomeBy (held .transfer) verdict in
-    let after : List ℕ = fileBy (held .file) (valueIn binaryKind (packetItems bytes)) verdict in
-    let rest = every-list-is-answered packets (left held bytes after outcome) in
-    record {
-      end = rest .end;
-      calls = call held (rest .end) bytes after outcome packets (record { answered = refl; written = refl }) (rest .calls);
-    }

@@ -1,13 +1,12 @@
--- 01, File fragments: the calls of `take` on one transfer, with the same file buffer, which nothing else touches.
+-- 01, File fragments: what calls on one transfer leave, with the same file buffer, which nothing else touches.
 use Prim.Native.Nat.{ℕ}
-use mathlib.Core.List.{List, [], _∷_, _++_}
+use mathlib.Core.List.{List, [], _++_}
 use Rattle.packet.specs.Packet.{packetItems}
 use Rattle.transfer.specs.Fragment.{binaryKind, valueIn}
-use Rattle.transfer.specs.Transfer.{startOf, Takes}
-use Rattle.transfer.specs.declared.Transfer.{Transfer}
-use Rattle.transfer.specs.declared.Answer.{Answer}
-use Rattle.transfer.specs.declared.Answer.the-variants.{Accepted, Refused}
-use Rattle.transfer.specs.declared.Outcome.{Outcome}
+use Rattle.transfer.specs.declared.state.Transfer.{Transfer}
+use Rattle.transfer.specs.declared.taking.Answer.{Answer}
+use Rattle.transfer.specs.declared.taking.Answer.the-variants.{Accepted, Refused}
+use Rattle.transfer.specs.declared.taking.Outcome.{Outcome}
 
 -- the bytes of the packet's fragment where it was accepted: of a refused one none
 unfoldable pub acceptedBytes : List ℕ → Answer → List ℕ
@@ -21,8 +20,8 @@ pub record Held : Type 0 where
   pub joined : List ℕ
 
 -- what the first call is given: the transfer that `start` answered
-abbrev pub started : List ℕ → List ℕ → Held
-started location file = record { transfer = startOf location .transfer; file = file; joined = [] }
+abbrev pub started : Outcome → List ℕ → Held
+started outcome file = record { transfer = outcome .transfer; file = file; joined = [] }
 
 -- what a call with a packet leaves for the next one
 abbrev pub left : Held → List ℕ → List ℕ → Outcome → Held
@@ -32,12 +31,3 @@ left held bytes after outcome =
       file = after;
       joined = held .joined ++ acceptedBytes bytes (outcome .answer);
     }
-
--- a list of packets, each given to a call that meets the contract of `take`, and what the last call leaves
-pub data Calls : Held → List (List ℕ) → Held → Type 0 where
-  none : (held : Held) → Calls held [] held
-  call :
-      (held end : Held) (bytes after : List ℕ) (outcome : Outcome) (packets : List (List ℕ))
-      → Takes (held .transfer) bytes (held .file) after outcome
-      → Calls (left held bytes after outcome) packets end
-      → Calls held (bytes ∷ packets) end

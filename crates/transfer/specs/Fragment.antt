@@ -7,11 +7,11 @@ use lib.Dec.{leb, ltb, eqb}
 use lib.ListN.{length}
 use Rattle.packet.specs.Items.{Item, eofKind, countOf, firstOf}
 use Rattle.packet.specs.Names.{validLocation}
-use Rattle.transfer.specs.declared.Declared.the-variants.{Unknown, Known}
-use Rattle.transfer.specs.declared.Number.{Number}
-use Rattle.transfer.specs.declared.Number.the-variants.{Is, NoNumber}
-use Rattle.transfer.specs.declared.Form.{Form}
-use Rattle.transfer.specs.declared.Form.the-variants.{Good, Bad}
+use Rattle.transfer.specs.declared.state.Declared.the-variants.{Unknown, Known}
+use Rattle.transfer.specs.declared.fragment.Number.{Number}
+use Rattle.transfer.specs.declared.fragment.Number.the-variants.{Is, NoNumber}
+use Rattle.transfer.specs.declared.fragment.Form.{Form}
+use Rattle.transfer.specs.declared.fragment.Form.the-variants.{Good, Bad}
 
 -- 01, File fragments: Binary (04), Length (12); Items and packets: Offset (11), Location (13)
 abbrev pub binaryKind : ℕ

@@ -12,15 +12,15 @@ use Rattle.packet.specs.Items.{Item}
 use Rattle.packet.specs.Names.{validLocation}
 use Rattle.packet.specs.Packet.{Judged, packet, refused, packetOf, packetItems}
 use Rattle.transfer.specs.Fragment.{binaryKind, locationKind, valueIn, formOf}
-use Rattle.transfer.specs.declared.Declared.{Declared}
-use Rattle.transfer.specs.declared.Declared.the-variants.{Unknown, Known}
-use Rattle.transfer.specs.declared.Form.{Form}
-use Rattle.transfer.specs.declared.Form.the-variants.{Good, Bad}
-use Rattle.transfer.specs.declared.Verdict.{Verdict}
-use Rattle.transfer.specs.declared.Verdict.the-variants as verdict
-use Rattle.transfer.specs.declared.Transfer.{Transfer}
-use Rattle.transfer.specs.declared.Answer.the-variants as answer
-use Rattle.transfer.specs.declared.Outcome.{Outcome}
+use Rattle.transfer.specs.declared.state.Declared.{Declared}
+use Rattle.transfer.specs.declared.state.Declared.the-variants.{Unknown, Known}
+use Rattle.transfer.specs.declared.fragment.Form.{Form}
+use Rattle.transfer.specs.declared.fragment.Form.the-variants.{Good, Bad}
+use Rattle.transfer.specs.declared.judging.Verdict.{Verdict}
+use Rattle.transfer.specs.declared.judging.Verdict.the-variants as verdict
+use Rattle.transfer.specs.declared.state.Transfer.{Transfer}
+use Rattle.transfer.specs.declared.taking.Answer.the-variants as answer
+use Rattle.transfer.specs.declared.taking.Outcome.{Outcome}
 
 -- 01, Items and packets: locations have up to 64 bytes
 abbrev pub locationRoom : ℕ
@@ -73,21 +73,28 @@ unfoldable pub endsEarly : Declared → Bool → ℕ → Bool
 endsEarly Unknown last end = false
 endsEarly (Known total) last end = last && ltb end total
 
--- 01, Refusal numbers, 18: the fragment or the declared length passes the declared length or the lent buffer; then 19.
--- A fragment of count bytes at offset ends at their sum.
+-- 01, Refusal numbers, 18: the fragment or the declared length passes the declared length or the lent buffer. A fragment of
+-- count bytes at offset ends at their sum.
+unfoldable pub isLong : ℕ → ℕ → ℕ → Declared → Bool
+isLong room offset count declared = ltb room (offset + count) || passesLength declared (offset + count) room
+
+-- 01, Refusal numbers, 17: offset is not the next one, or the transfer is complete; otherwise the transfer goes on there
+unfoldable pub goesOn : Transfer → ℕ → Bool
+goesOn transfer offset = not (transfer .complete) && eqb offset (transfer .next)
+
+-- 01, Refusal numbers: 18, then 19
 unfoldable pub judgeEnd : ℕ → ℕ → ℕ → Declared → Bool → Verdict
 judgeEnd room offset count declared last =
-    cond (ltb room (offset + count) || passesLength declared (offset + count) room)
+    cond (isLong room offset count declared)
     (verdict.Refused pastLength)
     (cond (endsEarly declared last (offset + count)) (verdict.Refused earlyEnd) (verdict.Accepted offset (offset + count) declared last))
 
--- 01, Refusal numbers: 20, 16, 17, 18, 19 for fragments. 16: a fragment of another location; 17: offset is not the next one,
--- or the transfer is complete.
+-- 01, Refusal numbers: 20, 16, 17, 18, 19 for fragments. 16: a fragment of another location.
 unfoldable pub judgeForm : Transfer → ℕ → List Item → Form → Verdict
 judgeForm transfer room items Bad = verdict.Refused badFragment
 judgeForm transfer room items (Good offset declared last) =
     cond (sameBytes (valueIn locationKind items) (locationOf transfer))
-    (cond (eqb offset (transfer .next) && not (transfer .complete))
+    (cond (goesOn transfer offset)
     (judgeEnd room offset (length (valueIn binaryKind items)) (knownLength declared (transfer .declared)) last)
     (verdict.Refused wrongOffset))
     (verdict.Refused otherLocation)

@@ -1,5 +1,5 @@
--- The laws of values: a word grows by a byte and stays below its power of 256, the complement of the distance to the
--- greatest word is two's complement, and a number has one of four lengths.
+-- The laws of values are arithmetic on a word of at most eight bytes: it grows by a byte and stays below its power of 256, the
+-- complement of the distance to the greatest word is two's complement, and a number has one of four lengths.
 use mathlib.Core.Path.{_≡_, refl, sym}
 use mathlib.Core.Bool.{Bool, true, false, cond, _||_}
 use mathlib.Core.List.{List, [], _∷_}

@@ -2,35 +2,25 @@
 use borrow.Author.Needs.{needs}
 use Rattle.display.proofs.count_reading.Statement.{statement}
 use Rattle.display.proofs.count_reading.Tie as tie
-use Rattle.display.proofs.count_reading.Reads as reads
-use Rattle.display.proofs.count_reading.Lts as lts
-use Rattle.link.proofs.receiver.count_unread.Reads as count-unread-reads
 
--- src/lib.rt:103:38
 enum-told : tie.Need-enum-told
 enum-told c = search needs
 
--- src/lib.rt:103:38
 count-unread-requires : tie.Need-count-unread-requires
 count-unread-requires c κs = search needs
 
--- src/lib.rt:104:35
 enum-told-2 : tie.Need-enum-told-2
 enum-told-2 c = search needs
 
--- src/lib.rt:105:38
 enum-told-3 : tie.Need-enum-told-3
 enum-told-3 c = search needs
 
--- src/lib.rt:99:1
 returns : tie.Need-returns
 returns c = rw (c .before .enum-told .given .1) (c .count-unread .ensures)
 
--- src/lib.rt:99:1
 returns-2 : tie.Need-returns-2
 returns-2 c = search needs
 
--- src/lib.rt:99:1
 returns-3 : tie.Need-returns-3
 returns-3 c = search needs
 

@@ -2,15 +2,10 @@
 use borrow.Author.Needs.{needs}
 use Rattle.display.proofs.hand_up.Statement.{statement}
 use Rattle.display.proofs.hand_up.Tie as tie
-use Rattle.display.proofs.hand_up.Reads as reads
-use Rattle.display.proofs.hand_up.Lts as lts
-use Rattle.display.proofs.count_reading.Reads as count-reading-reads
 
--- src/lib.rt:86:9
 count-reading-requires : tie.Need-count-reading-requires
 count-reading-requires c κs = search needs
 
--- src/lib.rt:75:1
 returns : tie.Need-returns
 returns c = rw (c .count-reading .ensures)
 

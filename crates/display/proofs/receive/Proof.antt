@@ -1,14 +1,11 @@
 -- `display::receive` meets its contract: each answer of the link is passed on, and a new packet is what the board reads, since the
 -- link put it whole at the start of the packet buffer.
 use mathlib.Core.Path.{_≡_, refl, sym, ap, _∙_}
-use mathlib.Core.List.{List}
-use Prim.Native.Nat.{ℕ, _≤_}
+use Prim.Native.Nat.{_≤_}
 use native.Mathlib.Omega.{arith}
-use lib.ListN.{length, take}
+use lib.ListN.{length}
 use lib.Seq.{length-take-le}
-use Rattle.slices.proofs.PutLaws.{put-first}
 use Rattle.link.specs.Receiving.{Call, receiveOf}
-use Rattle.link.specs.declared.receiver.Answer as link-answer
 use Rattle.link.specs.declared.receiver.Received as link-received
 use Rattle.display.specs.Display.{receivePiece}
 use Rattle.display.proofs.LengthLaws.{whole-link}
@@ -16,22 +13,13 @@ use Rattle.display.proofs.DisplayLaws.{Handed, receive-handed, kept, ha
 use borrow.Author.Needs.{needs}
 use Rattle.display.proofs.receive.Statement.{statement}
 use Rattle.display.proofs.receive.Tie as tie
-use Rattle.display.proofs.receive.Reads as reads
-use Rattle.display.proofs.receive.Lts as lts
-use Rattle.board.proofs.read.Reads as read-reads
-use Rattle.display.proofs.hand_up.Reads as hand-up-reads
-use Rattle.display.proofs.keep.Reads as keep-reads
-use Rattle.link.proofs.receiver.receive.Reads as receive-reads
 
--- src/lib.rt:61:9
 receive-requires : tie.Need-receive-requires
 receive-requires c κs = search needs
 
--- src/lib.rt:65:20
 enum-known-answer : tie.Need-enum-known-answer
 enum-known-answer c = search needs
 
--- src/lib.rt:68:46
 abbrev start : tie.After-receive → tie.Start
 start c = c .before .before .before .before .before .before .before .before
 
@@ -61,7 +49,6 @@ slice-reshare-prefix-read c =
     let kept = c .before .before .before .before .before .before .before .receive .kept .1 .1 .1 .0 in
     omega (arith, handed .size, handed .fits, kept)
 
--- src/lib.rt:68:46
 slice-aggregate-read : tie.Need-slice-aggregate-read
 slice-aggregate-read c =
     let handed = handed-at (c .before .before) in
@@ -69,55 +56,42 @@ slice-aggregate-read c =
     let fits : c .before .before .answer .given .0 .1 .0 ≤ length (c .before .before .before .before .before .before .before .before .receive .last .1 .1 .1 .0) = omega (arith, handed .size, handed .fits, kept) in
     sym (length-take-le _ _ fits)
 
--- src/lib.rt:68:17
 read-requires : tie.Need-read-requires
 read-requires c κs = search needs
 
--- src/lib.rt:69:13
 hand-up-requires : tie.Need-hand-up-requires
 hand-up-requires c κs = search needs
 
--- src/lib.rt:71:66
 enum-told : tie.Need-enum-told
 enum-told c = search needs
 
--- src/lib.rt:71:44
 keep-requires : tie.Need-keep-requires
 keep-requires c κs = search needs
 
--- src/lib.rt:72:41
 enum-known-answer-2 : tie.Need-enum-known-answer-2
 enum-known-answer-2 c = search needs
 
--- src/lib.rt:72:52
 keep-requires-2 : tie.Need-keep-requires-2
 keep-requires-2 c κs = search needs
 
--- src/lib.rt:73:39
 enum-known-answer-3 : tie.Need-enum-known-answer-3
 enum-known-answer-3 c = search needs
 
--- src/lib.rt:73:52
 keep-requires-3 : tie.Need-keep-requires-3
 keep-requires-3 c κs = search needs
 
--- src/lib.rt:74:39
 enum-known-answer-4 : tie.Need-enum-known-answer-4
 enum-known-answer-4 c = search needs
 
--- src/lib.rt:74:50
 keep-requires-4 : tie.Need-keep-requires-4
 keep-requires-4 c κs = search needs
 
--- src/lib.rt:56:1
 same-length : tie.Need-same-length
 same-length c = search needs
 
--- src/lib.rt:56:1
 same-length-2 : tie.Need-same-length-2
 same-length-2 c = search needs
 
--- src/lib.rt:56:1
 returns : tie.Need-returns
 unfolding receivePiece
 returns c =
@@ -127,60 +101,48 @@ returns c =
     handed-up (start at .args .display .board) (call at) _ _ _ _ _ _ (at .receive .ensures) _ _ _
     (answered at ∙ at-answer .answer .given .1) (rw part at (c .before .read .ensures)) (c .hand-up .ensures)
 
--- src/lib.rt:56:1
 same-length-3 : tie.Need-same-length-3
 same-length-3 c = search needs
 
--- src/lib.rt:56:1
 same-length-4 : tie.Need-same-length-4
 same-length-4 c = search needs
 
--- src/lib.rt:56:1
 returns-2 : tie.Need-returns-2
 unfolding receivePiece
 returns-2 c =
     let at = c .before .before .before .before .before .before .before in
     kept (start at .args .display .board) (call at) _ _ _ _ _ _ (at .receive .ensures) _ _ (answered at ∙ c .before .enum-told .given .1) refl (c .keep .ensures)
 
--- src/lib.rt:56:1
 same-length-5 : tie.Need-same-length-5
 same-length-5 c = search needs
 
--- src/lib.rt:56:1
 same-length-6 : tie.Need-same-length-6
 same-length-6 c = search needs
 
--- src/lib.rt:56:1
 returns-3 : tie.Need-returns-3
 unfolding receivePiece
 returns-3 c =
     let at = c .before .before .before .before .before .before .before .before in
     kept (start at .args .display .board) (call at) _ _ _ _ _ _ (at .receive .ensures) _ _ (answered at ∙ c .before .before .answer2 .given .1) refl (c .keep2 .ensures)
 
--- src/lib.rt:56:1
 same-length-7 : tie.Need-same-length-7
 same-length-7 c = search needs
 
--- src/lib.rt:56:1
 same-length-8 : tie.Need-same-length-8
 same-length-8 c = search needs
 
--- src/lib.rt:56:1
 returns-4 : tie.Need-returns-4
 unfolding receivePiece
 returns-4 c =
     let at = c .before .before .before .before .before .before .before .before in
     kept (start at .args .display .board) (call at) _ _ _ _ _ _ (at .receive .ensures) _ _ (answered at ∙ c .before .before .answer3 .given .1) refl (c .keep3 .ensures)
 
--- src/lib.rt:56:1
 same-length-9 : tie.Need-same-length-9
 same-length-9 c = search needs
 
--- src/lib.rt:56:1
 same-length-10 : tie.Need-same-length-10
 same-length-10 c = search needs
 
--- src/lib.rt:56:1
 returns-5 : tie.Need-returns-5
 unfolding receivePiece
 returns-5 c =

@@ -1,16 +1,11 @@
--- `display::start` meets its contract: a fresh link beside the board.
+-- `display::start` meets its contract: what `fresh` answers is put beside the board.
 use borrow.Author.Needs.{needs}
 use Rattle.display.proofs.start.Statement.{statement}
 use Rattle.display.proofs.start.Tie as tie
-use Rattle.display.proofs.start.Reads as reads
-use Rattle.display.proofs.start.Lts as lts
-use Rattle.link.proofs.receiver.fresh.Reads as fresh-reads
 
--- src/lib.rt:40:9
 fresh-requires : tie.Need-fresh-requires
 fresh-requires c κs = search needs
 
--- src/lib.rt:37:1
 returns : tie.Need-returns
 returns c = rw (c .fresh .ensures)
 

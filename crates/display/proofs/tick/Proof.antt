@@ -2,15 +2,10 @@
 use borrow.Author.Needs.{needs}
 use Rattle.display.proofs.tick.Statement.{statement}
 use Rattle.display.proofs.tick.Tie as tie
-use Rattle.display.proofs.tick.Reads as reads
-use Rattle.display.proofs.tick.Lts as lts
-use Rattle.rows.proofs.tick.Reads as tick-reads
 
--- src/lib.rt:49:9
 tick-requires : tie.Need-tick-requires
 tick-requires c κs = search needs
 
--- src/lib.rt:45:1
 returns : tie.Need-returns
 returns c = rw (c .tick .ensures)
 

@@ -1,5 +1,5 @@
 -- `host::arznavik_frame_check` meets its contract: the reader's answer, packed into a report; a payload's length fits its part.
-use mathlib.Core.Path.{_≡_, sym, _∙_}
+use mathlib.Core.Path.{sym, _∙_}
 use native.Mathlib.Omega.{arith}
 use lib.ListN.{length}
 use Rattle.frame.specs.Reading.{readFrame}
@@ -8,28 +8,19 @@ use Rattle.host.proofs.ReportLaws.{read-refused, read-frame, read-size}
 use borrow.Author.Needs.{needs}
 use Rattle.host.proofs.arznavik_frame_check.Statement.{statement}
 use Rattle.host.proofs.arznavik_frame_check.Tie as tie
-use Rattle.host.proofs.arznavik_frame_check.Reads as reads
-use Rattle.host.proofs.arznavik_frame_check.Lts as lts
-use Rattle.frame.proofs.reader.read_frame.Reads as read-frame-reads
-use Rattle.host.proofs.report.Reads as report-reads
 
--- src/lib.rt:29:11
 read-frame-requires : tie.Need-read-frame-requires
 read-frame-requires c κs = search needs
 
--- src/lib.rt:30:28
 enum-known-number : tie.Need-enum-known-number
 enum-known-number c = search needs
 
--- src/lib.rt:30:39
 report-requires : tie.Need-report-requires
 report-requires c κs = search needs
 
--- src/lib.rt:32:13
 enum-known-kind : tie.Need-enum-known-kind
 enum-known-kind c = search needs
 
--- src/lib.rt:35:14
 report-requires-2 : tie.Need-report-requires-2
 report-requires-2 c κs =
     let a = c .before .before .before .before .before .before .before .before .before .args in
@@ -40,11 +31,9 @@ report-requires-2 c κs =
     let small = read-size (readFrame room bytes) _ _ _ 383 (read-bounded room bytes) told in
     omega (arith, small)
 
--- src/lib.rt:25:1
 same-length : tie.Need-same-length
 same-length c = search needs
 
--- src/lib.rt:25:1
 returns : tie.Need-returns
 returns c =
     let a = c .before .before .before .before .before .before .before .before .before .before .args in
@@ -53,11 +42,9 @@ returns c =
     let told = sym (c .before .before .number .given .1) ∙ call .ensures .answers in
     record { reports = c .report .ensures ∙ read-refused found _ told; payload = call .ensures .output }
 
--- src/lib.rt:25:1
 same-length-2 : tie.Need-same-length-2
 same-length-2 c = search needs
 
--- src/lib.rt:25:1
 returns-2 : tie.Need-returns-2
 returns-2 c =
     let a = c .before .before .before .before .before .before .before .before .before .before .args in

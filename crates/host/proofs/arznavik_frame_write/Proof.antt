@@ -1,5 +1,5 @@
 -- `host::arznavik_frame_write` meets its contract: the writer's answer, packed into a report; a frame's length fits its part.
-use mathlib.Core.Path.{_≡_, sym, _∙_}
+use mathlib.Core.Path.{sym, _∙_}
 use native.Mathlib.Omega.{arith}
 use lib.ListN.{length}
 use Rattle.frame.specs.Writing.{writeFrame}
@@ -8,28 +8,19 @@ use Rattle.host.proofs.ReportLaws.{write-refused, write-length, write-s
 use borrow.Author.Needs.{needs}
 use Rattle.host.proofs.arznavik_frame_write.Statement.{statement}
 use Rattle.host.proofs.arznavik_frame_write.Tie as tie
-use Rattle.host.proofs.arznavik_frame_write.Reads as reads
-use Rattle.host.proofs.arznavik_frame_write.Lts as lts
-use Rattle.frame.proofs.writer.write_frame.Reads as write-frame-reads
-use Rattle.host.proofs.report.Reads as report-reads
 
--- src/lib.rt:50:11
 write-frame-requires : tie.Need-write-frame-requires
 write-frame-requires c κs = search needs
 
--- src/lib.rt:51:26
 enum-known-number : tie.Need-enum-known-number
 enum-known-number c = search needs
 
--- src/lib.rt:51:37
 report-requires : tie.Need-report-requires
 report-requires c κs = search needs
 
--- src/lib.rt:52:25
 enum-known-length : tie.Need-enum-known-length
 enum-known-length c = search needs
 
--- src/lib.rt:52:36
 report-requires-2 : tie.Need-report-requires-2
 report-requires-2 c κs =
     let a = c .before .before .before .before .before .before .before .before .before .args in
@@ -41,11 +32,9 @@ report-requires-2 c κs =
     (written-bounded room (a .kind) (a .sequence) (a .payload .now)) told in
     omega (arith, small)
 
--- src/lib.rt:41:1
 same-length : tie.Need-same-length
 same-length c = search needs
 
--- src/lib.rt:41:1
 returns : tie.Need-returns
 returns c =
     let a = c .before .before .before .before .before .before .before .before .before .before .args in
@@ -54,11 +43,9 @@ returns c =
     let told = sym (c .before .before .number .given .1) ∙ call .ensures .answers in
     record { reports = c .report .ensures ∙ write-refused result _ told; frame = call .ensures .output }
 
--- src/lib.rt:41:1
 same-length-2 : tie.Need-same-length-2
 same-length-2 c = search needs
 
--- src/lib.rt:41:1
 returns-2 : tie.Need-returns-2
 returns-2 c =
     let a = c .before .before .before .before .before .before .before .before .before .before .args in

@@ -1,10 +1,9 @@
 -- `frame::content::judge` meets its contract: each answer is the law of whole content for the tests that led there.
-use mathlib.Core.Path.{_≡_, sym, ap, _∙_}
+use mathlib.Core.Path.{sym, _∙_}
 use Prim.Native.Nat.{_≤_}
 use native.Mathlib.Omega.{arith}
 use borrow.Author.Needs.{needs}
 use lib.ListN.{length}
-use Rattle.frame.specs.Answers.{readAnswer}
 use Rattle.frame.proofs.ContentLaws.{length-payload, judged-short, judged-bad, judged-good}
 use Rattle.frame.proofs.content.judge.Statement.{statement}
 use Rattle.frame.proofs.content.judge.Tie as tie

@@ -3,7 +3,7 @@
 use mathlib.Core.Path.{_≡_}
 use Prim.Native.Nat.{_+_, _-_, _≤_}
 use native.Mathlib.Omega.{arith}
-use lib.ListN.{length, getD}
+use lib.ListN.{getD}
 use Rattle.frame.specs.Stuffing.{plain, escaped, contentMax}
 use Rattle.frame.proofs.UnstuffLaws.{plain-escape, plain-byte, escaped-byte, escaped-fault, unstuff-end, unstuff-escape, unstuff-fault, unstuff-byte, unstuff-full, stored, stopped, ended}
 use Prim.Native.Nat.{ℕ, _<_}
@@ -44,65 +44,40 @@ abbrev read-plain-below : ℕ → In 2 read-plain-kinds.ps
 read-plain-below t =
     and 2 read-plain-kinds.ps (falls 2 read-plain-kinds.ps _<_ μ-read-plain t) read-plain.Pre
 
--- src/reader.rt:135:9
-read-escaped-returns : (t : ℕ) → read-escaped-lts.Need-returns (
-  read-plain-below t,
-  read-plain.Post,
-) (read-escaped-at t) read-escaped.Post
+-- what is known of the functions that each calls
+abbrev read-escaped-claims : ℕ → read-escaped-lts.Claims
+read-escaped-claims t = (read-plain-below t, read-plain.Post)
+
+abbrev read-plain-claims : ℕ → read-plain-lts.Claims
+read-plain-claims t = (read-escaped-below t, read-escaped.Post, read-plain-below t, read-plain.Post)
+
+read-escaped-returns : (t : ℕ) → read-escaped-lts.Need-returns (read-escaped-claims t) (read-escaped-at t) read-escaped.Post
 read-escaped-returns t c =
     let start = c .before in
     let a = start .args in
     rw (unstuff-end escaped (a .held) (a .sent .now) (a .count) (a .at) (c .if1 .taken)) (stopped 1 (a .held) (a .content .now) (a .content .now))
 
--- src/reader.rt:137:16
-read-escaped-element-copy-out-byte : (t : ℕ) → read-escaped-lts.Need-element-copy-out-byte (
-  read-plain-below t,
-  read-plain.Post,
-) (read-escaped-at t) read-escaped.Post
+read-escaped-element-copy-out-byte : (t : ℕ) → read-escaped-lts.Need-element-copy-out-byte (read-escaped-claims t) (read-escaped-at t) read-escaped.Post
 read-escaped-element-copy-out-byte t c = omega arith
 
--- src/reader.rt:138:16
-read-escaped-add-next : (t : ℕ) → read-escaped-lts.Need-add-next (
-  read-plain-below t,
-  read-plain.Post,
-) (read-escaped-at t) read-escaped.Post
+read-escaped-add-next : (t : ℕ) → read-escaped-lts.Need-add-next (read-escaped-claims t) (read-escaped-at t) read-escaped.Post
 read-escaped-add-next t c = omega arith
 
--- src/reader.rt:142:33
-read-escaped-add-content : (t : ℕ) → read-escaped-lts.Need-add-content (
-  read-plain-below t,
-  read-plain.Post,
-) (read-escaped-at t) read-escaped.Post
+read-escaped-add-content : (t : ℕ) → read-escaped-lts.Need-add-content (read-escaped-claims t) (read-escaped-at t) read-escaped.Post
 read-escaped-add-content t c = omega arith
 
--- src/reader.rt:142:17
-read-escaped-element-write-content : (t : ℕ) → read-escaped-lts.Need-element-write-content (
-  read-plain-below t,
-  read-plain.Post,
-) (read-escaped-at t) read-escaped.Post
+read-escaped-element-write-content : (t : ℕ) → read-escaped-lts.Need-element-write-content (read-escaped-claims t) (read-escaped-at t) read-escaped.Post
 read-escaped-element-write-content t c = omega arith
 
--- src/reader.rt:143:63
-read-escaped-add-read-plain : (t : ℕ) → read-escaped-lts.Need-add-read-plain (
-  read-plain-below t,
-  read-plain.Post,
-) (read-escaped-at t) read-escaped.Post
+read-escaped-add-read-plain : (t : ℕ) → read-escaped-lts.Need-add-read-plain (read-escaped-claims t) (read-escaped-at t) read-escaped.Post
 read-escaped-add-read-plain t c = omega arith
 
--- src/reader.rt:143:17
-read-escaped-read-plain-requires : (t : ℕ) → read-escaped-lts.Need-read-plain-requires (
-  read-plain-below t,
-  read-plain.Post,
-) (read-escaped-at t) read-escaped.Post
+read-escaped-read-plain-requires : (t : ℕ) → read-escaped-lts.Need-read-plain-requires (read-escaped-claims t) (read-escaped-at t) read-escaped.Post
 read-escaped-read-plain-requires t c κs =
     let start = c .before .before .before .before .before .before in
     (omega (arith, start .pre .0), start .pre .1)
 
--- src/reader.rt:143:17
-read-escaped-returns-2 : (t : ℕ) → read-escaped-lts.Need-returns-2 (
-  read-plain-below t,
-  read-plain.Post,
-) (read-escaped-at t) read-escaped.Post
+read-escaped-returns-2 : (t : ℕ) → read-escaped-lts.Need-returns-2 (read-escaped-claims t) (read-escaped-at t) read-escaped.Post
 read-escaped-returns-2 t c =
     let start = c .before .before .before .before .before .before .before in
     let a = start .args in
@@ -115,11 +90,7 @@ read-escaped-returns-2 t c =
     rw (unstuff-byte escaped (a .held) (a .sent .now) (a .count) (a .at) fits more (b + 0x20) (escaped-byte b low high) room)
     (stored _ (b + 0x20) (a .held) (a .content .now) _ _ (c .read-plain .ensures))
 
--- src/reader.rt:130:1
-read-escaped-returns-3 : (t : ℕ) → read-escaped-lts.Need-returns-3 (
-  read-plain-below t,
-  read-plain.Post,
-) (read-escaped-at t) read-escaped.Post
+read-escaped-returns-3 : (t : ℕ) → read-escaped-lts.Need-returns-3 (read-escaped-claims t) (read-escaped-at t) read-escaped.Post
 read-escaped-returns-3 t c =
     let start = c .before .before .before .before .before in
     let a = start .args in
@@ -131,11 +102,7 @@ read-escaped-returns-3 t c =
     rw (unstuff-full escaped (a .held) (a .sent .now) (a .count) (a .at) fits more (b + 0x20) (escaped-byte b low high) (c .if4 .left))
     (stopped 2 (a .held) (a .content .now) (a .content .now))
 
--- src/reader.rt:130:1
-read-escaped-returns-4 : (t : ℕ) → read-escaped-lts.Need-returns-4 (
-  read-plain-below t,
-  read-plain.Post,
-) (read-escaped-at t) read-escaped.Post
+read-escaped-returns-4 : (t : ℕ) → read-escaped-lts.Need-returns-4 (read-escaped-claims t) (read-escaped-at t) read-escaped.Post
 read-escaped-returns-4 t c =
     let start = c .before .before .before in
     let a = start .args in
@@ -147,11 +114,7 @@ read-escaped-returns-4 t c =
     rw (unstuff-fault escaped (a .held) (a .sent .now) (a .count) (a .at) fits more (escaped-fault b no-flag no-escape))
     (stopped 1 (a .held) (a .content .now) (a .content .now))
 
--- src/reader.rt:130:1
-read-escaped-returns-5 : (t : ℕ) → read-escaped-lts.Need-returns-5 (
-  read-plain-below t,
-  read-plain.Post,
-) (read-escaped-at t) read-escaped.Post
+read-escaped-returns-5 : (t : ℕ) → read-escaped-lts.Need-returns-5 (read-escaped-claims t) (read-escaped-at t) read-escaped.Post
 read-escaped-returns-5 t c =
     let start = c .before .before .before .before in
     let a = start .args in
@@ -163,53 +126,23 @@ read-escaped-returns-5 t c =
     rw (unstuff-fault escaped (a .held) (a .sent .now) (a .count) (a .at) fits more (escaped-fault b no-flag no-escape))
     (stopped 1 (a .held) (a .content .now) (a .content .now))
 
--- src/reader.rt:114:9
-read-plain-returns : (t : ℕ) → read-plain-lts.Need-returns (
-  read-escaped-below t,
-  read-escaped.Post,
-  read-plain-below t,
-  read-plain.Post,
-) (read-plain-at t) read-plain.Post
+read-plain-returns : (t : ℕ) → read-plain-lts.Need-returns (read-plain-claims t) (read-plain-at t) read-plain.Post
 read-plain-returns t c =
     let a = c .before .args in
     rw (unstuff-end plain (a .held) (a .sent .now) (a .count) (a .at) (c .if1 .taken)) (ended (a .held) (a .content .now))
 
--- src/reader.rt:116:16
-read-plain-element-copy-out-byte : (t : ℕ) → read-plain-lts.Need-element-copy-out-byte (
-  read-escaped-below t,
-  read-escaped.Post,
-  read-plain-below t,
-  read-plain.Post,
-) (read-plain-at t) read-plain.Post
+read-plain-element-copy-out-byte : (t : ℕ) → read-plain-lts.Need-element-copy-out-byte (read-plain-claims t) (read-plain-at t) read-plain.Post
 read-plain-element-copy-out-byte t c = omega arith
 
--- src/reader.rt:117:16
-read-plain-add-next : (t : ℕ) → read-plain-lts.Need-add-next (
-  read-escaped-below t,
-  read-escaped.Post,
-  read-plain-below t,
-  read-plain.Post,
-) (read-plain-at t) read-plain.Post
+read-plain-add-next : (t : ℕ) → read-plain-lts.Need-add-next (read-plain-claims t) (read-plain-at t) read-plain.Post
 read-plain-add-next t c = omega arith
 
--- src/reader.rt:119:9
-read-plain-read-escaped-requires : (t : ℕ) → read-plain-lts.Need-read-escaped-requires (
-  read-escaped-below t,
-  read-escaped.Post,
-  read-plain-below t,
-  read-plain.Post,
-) (read-plain-at t) read-plain.Post
+read-plain-read-escaped-requires : (t : ℕ) → read-plain-lts.Need-read-escaped-requires (read-plain-claims t) (read-plain-at t) read-plain.Post
 read-plain-read-escaped-requires t c κs =
     let start = c .before .before .before .before in
     (omega (arith, start .pre .0), start .pre .1)
 
--- src/reader.rt:119:9
-read-plain-returns-2 : (t : ℕ) → read-plain-lts.Need-returns-2 (
-  read-escaped-below t,
-  read-escaped.Post,
-  read-plain-below t,
-  read-plain.Post,
-) (read-plain-at t) read-plain.Post
+read-plain-returns-2 : (t : ℕ) → read-plain-lts.Need-returns-2 (read-plain-claims t) (read-plain-at t) read-plain.Post
 read-plain-returns-2 t c =
     let start = c .before .before .before .before .before in
     let a = start .args in
@@ -219,42 +152,18 @@ read-plain-returns-2 t c =
     let escape : b ≡ 0x7d = c .before .before .if2 .taken in
     rw (unstuff-escape plain (a .held) (a .sent .now) (a .count) (a .at) fits more (plain-escape b escape)) (c .read-escaped .ensures)
 
--- src/reader.rt:122:9
-read-plain-element-write-content : (t : ℕ) → read-plain-lts.Need-element-write-content (
-  read-escaped-below t,
-  read-escaped.Post,
-  read-plain-below t,
-  read-plain.Post,
-) (read-plain-at t) read-plain.Post
+read-plain-element-write-content : (t : ℕ) → read-plain-lts.Need-element-write-content (read-plain-claims t) (read-plain-at t) read-plain.Post
 read-plain-element-write-content t c = omega arith
 
--- src/reader.rt:123:55
-read-plain-add-read-plain : (t : ℕ) → read-plain-lts.Need-add-read-plain (
-  read-escaped-below t,
-  read-escaped.Post,
-  read-plain-below t,
-  read-plain.Post,
-) (read-plain-at t) read-plain.Post
+read-plain-add-read-plain : (t : ℕ) → read-plain-lts.Need-add-read-plain (read-plain-claims t) (read-plain-at t) read-plain.Post
 read-plain-add-read-plain t c = omega arith
 
--- src/reader.rt:123:9
-read-plain-read-plain-requires : (t : ℕ) → read-plain-lts.Need-read-plain-requires (
-  read-escaped-below t,
-  read-escaped.Post,
-  read-plain-below t,
-  read-plain.Post,
-) (read-plain-at t) read-plain.Post
+read-plain-read-plain-requires : (t : ℕ) → read-plain-lts.Need-read-plain-requires (read-plain-claims t) (read-plain-at t) read-plain.Post
 read-plain-read-plain-requires t c κs =
     let start = c .before .before .before .before .before in
     (omega (arith, start .pre .0), start .pre .1)
 
--- src/reader.rt:123:9
-read-plain-returns-3 : (t : ℕ) → read-plain-lts.Need-returns-3 (
-  read-escaped-below t,
-  read-escaped.Post,
-  read-plain-below t,
-  read-plain.Post,
-) (read-plain-at t) read-plain.Post
+read-plain-returns-3 : (t : ℕ) → read-plain-lts.Need-returns-3 (read-plain-claims t) (read-plain-at t) read-plain.Post
 read-plain-returns-3 t c =
     let start = c .before .before .before .before .before .before in
     let a = start .args in
@@ -266,13 +175,7 @@ read-plain-returns-3 t c =
     rw (unstuff-byte plain (a .held) (a .sent .now) (a .count) (a .at) fits more b (plain-byte b other) room)
     (stored _ b (a .held) (a .content .now) _ _ (c .read-plain .ensures))
 
--- src/reader.rt:109:1
-read-plain-returns-4 : (t : ℕ) → read-plain-lts.Need-returns-4 (
-  read-escaped-below t,
-  read-escaped.Post,
-  read-plain-below t,
-  read-plain.Post,
-) (read-plain-at t) read-plain.Post
+read-plain-returns-4 : (t : ℕ) → read-plain-lts.Need-returns-4 (read-plain-claims t) (read-plain-at t) read-plain.Post
 read-plain-returns-4 t c =
     let start = c .before .before .before .before in
     let a = start .args in
@@ -284,10 +187,7 @@ read-plain-returns-4 t c =
     (stopped 2 (a .held) (a .content .now) (a .content .now))
 
 pub +read-escaped+read-plain-spec : {M : Type 1} → statement M
-+read-escaped+read-plain-spec = close μ-read-escaped μ-read-plain (λ t. read-escaped-lts.spec (
-  read-plain-below t,
-  read-plain.Post,
-)
++read-escaped+read-plain-spec = close μ-read-escaped μ-read-plain (λ t. read-escaped-lts.spec (read-escaped-claims t)
     (read-escaped-at t)
     read-escaped.Post
     (read-escaped-returns t)
@@ -301,8 +201,7 @@ pub +read-escaped+read-plain-spec : {M : Type 1} → statement M
     (read-escaped-returns-3 t)
     (read-escaped-returns-4 t)
     (read-escaped-returns-5 t))
-    λ t. read-plain-lts.spec
-    (read-escaped-below t, read-escaped.Post, read-plain-below t, read-plain.Post)
+    λ t. read-plain-lts.spec (read-plain-claims t)
     (read-plain-at t)
     read-plain.Post
     (read-plain-returns t)

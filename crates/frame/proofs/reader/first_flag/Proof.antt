@@ -8,8 +8,6 @@ use Rattle.frame.specs.Reading.{firstFlag}
 use Rattle.frame.proofs.ReadLaws.{first-flag-here, first-flag-later, first-flag-none}
 use Rattle.frame.proofs.reader.first_flag.Statement.{statement}
 use Rattle.frame.proofs.reader.first_flag.Tie as tie
-use Rattle.frame.proofs.reader.first_flag.Reads as reads
-use Rattle.frame.proofs.reader.first_flag.Lts as lts
 
 abbrev Inv-loop : tie.InvT-loop
 Inv-loop bytes from i₀ i = i + firstFlag (drop i bytes) ≡ from + firstFlag (drop from bytes)
@@ -17,15 +15,12 @@ Inv-loop bytes from i₀ i = i + firstFlag (drop i bytes) ≡ from + firstFlag (
 abbrev μ-loop : tie.MeasureT-loop
 μ-loop bytes from i₀ i = length bytes - i
 
--- src/reader.rt:73:5
 loop-holds : tie.Need-loop-holds Inv-loop μ-loop
 loop-holds c = refl
 
--- src/reader.rt:74:12
 shared-slice-read-if1 : tie.Need-shared-slice-read-if1 Inv-loop μ-loop
 shared-slice-read-if1 c = omega arith
 
--- src/reader.rt:75:13
 returns : tie.Need-returns Inv-loop μ-loop
 returns c =
     let loop = c .before .before .before .loop in
@@ -33,15 +28,12 @@ returns c =
     let here = first-flag-here bytes (loop .i) (c .before .before .loop-test .taken) (c .if1 .taken) in
     omega (arith, here)
 
--- src/reader.rt:77:9
 add-i : tie.Need-add-i Inv-loop μ-loop
 add-i c = omega arith
 
--- src/reader.rt:73:5
 loop-less : tie.Need-loop-less Inv-loop μ-loop
 loop-less c = omega arith
 
--- src/reader.rt:73:5
 loop-again : tie.Need-loop-again Inv-loop μ-loop
 loop-again c =
     let loop = c .before .before .before .loop in
@@ -49,7 +41,6 @@ loop-again c =
     let later = first-flag-later bytes (loop .i) (c .before .before .loop-test .taken) (c .if1 .left) in
     omega (arith, later)
 
--- src/reader.rt:69:1
 returns-2 : tie.Need-returns-2 Inv-loop μ-loop
 returns-2 c =
     let loop = c .before .loop in

@@ -1,5 +1,5 @@
 -- `frame::reader::flagged` meets its contract: behind a first flag, the next one has to be the last byte.
-use mathlib.Core.Path.{_≡_, sym}
+use mathlib.Core.Path.{sym}
 use Prim.Native.Nat.{_<_}
 use native.Mathlib.Omega.{arith}
 use lib.ListN.{length}
@@ -7,34 +7,25 @@ use Rattle.frame.proofs.ReadLaws.{flagged-short, flagged-first, flagged
 use borrow.Author.Needs.{needs}
 use Rattle.frame.proofs.reader.flagged.Statement.{statement}
 use Rattle.frame.proofs.reader.flagged.Tie as tie
-use Rattle.frame.proofs.reader.flagged.Reads as reads
-use Rattle.frame.proofs.reader.flagged.Lts as lts
-use Rattle.frame.proofs.reader.first_flag.Reads as first-flag-reads
 
--- src/reader.rt:59:9
 returns : tie.Need-returns
 returns c = sym (flagged-short (c .before .before .args .bytes .now) (c .if1 .taken))
 
--- src/reader.rt:61:8
 shared-slice-read-if2 : tie.Need-shared-slice-read-if2
 shared-slice-read-if2 c = search needs
 
--- src/reader.rt:62:9
 returns-2 : tie.Need-returns-2
 returns-2 c =
     let bytes = c .before .before .before .before .args .bytes .now in
     let some : 0 < length bytes = omega arith in
     sym (flagged-first bytes some (c .if2 .taken))
 
--- src/reader.rt:64:16
 sub-last : tie.Need-sub-last
 sub-last c = search needs
 
--- src/reader.rt:65:5
 first-flag-requires : tie.Need-first-flag-requires
 first-flag-requires c κs = search needs
 
--- src/reader.rt:55:1
 returns-3 : tie.Need-returns-3
 returns-3 c =
     let bytes = c .before .before .before .before .before .args .bytes .now in

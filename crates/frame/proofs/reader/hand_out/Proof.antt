@@ -1,5 +1,5 @@
 -- `frame::reader::hand_out` meets its contract: what `judge` answered says what the content is, and its payload is what is put.
-use mathlib.Core.Path.{_≡_, sym, _∙_}
+use mathlib.Core.Path.{sym, _∙_}
 use mathlib.Core.List.{List}
 use native.Mathlib.Omega.{arith}
 use Rattle.frame.specs.Content.{judged}
@@ -8,20 +8,13 @@ use Prim.Native.Nat.{ℕ}
 use borrow.Author.Needs.{needs}
 use Rattle.frame.proofs.reader.hand_out.Statement.{statement}
 use Rattle.frame.proofs.reader.hand_out.Tie as tie
-use Rattle.frame.proofs.reader.hand_out.Reads as reads
-use Rattle.frame.proofs.reader.hand_out.Lts as lts
-use Rattle.frame.proofs.content.judge.Reads as judge-reads
-use Rattle.slices.proofs.put.Reads as put-reads
 
--- src/reader.rt:43:9
 judge-requires : tie.Need-judge-requires
 judge-requires c κs = search needs
 
--- src/reader.rt:45:34
 enum-told : tie.Need-enum-told
 enum-told c = search needs
 
--- src/reader.rt:46:50
 enum-known-read : tie.Need-enum-known-read
 enum-known-read c = search needs
 
@@ -33,32 +26,26 @@ found : (c : tie.After-read)
     → FoundFrame (content c) (c .read .given .0 .0) (c .read .given .0 .1 .0) (c .read .given .0 .1 .1 .0)
 found c = answer-frame (content c) _ _ _ (sym (c .read .given .1) ∙ c .before .before .judge .ensures)
 
--- src/reader.rt:47:23
 add-end : tie.Need-add-end
 add-end c =
     let told = c .before in
     let f = found told in
     omega (arith, f .whole, f .size)
 
--- src/reader.rt:48:33
 sub-put : tie.Need-sub-put
 sub-put c = search needs
 
--- src/reader.rt:48:33
 part-put-start : tie.Need-part-put-start
 part-put-start c = search needs
 
--- src/reader.rt:48:33
 part-put-end : tie.Need-part-put-end
 part-put-end c =
     let f = found (c .before .before) in
     omega (arith, f .whole, f .size)
 
--- src/reader.rt:48:13
 put-requires : tie.Need-put-requires
 put-requires c κs = search needs
 
--- src/reader.rt:40:1
 returns : tie.Need-returns
 returns c =
     let judge = c .before .before .judge in
@@ -66,11 +53,9 @@ returns c =
     let is = answer-refused found (c .enum-told .given .0 .0) (sym (c .enum-told .given .1) ∙ judge .ensures) in
     record { answers = judge .ensures; output = rw is }
 
--- src/reader.rt:40:1
 same-length : tie.Need-same-length
 same-length c = search needs
 
--- src/reader.rt:40:1
 returns-2 : tie.Need-returns-2
 returns-2 c =
     let known = c .before .before .before .before .before .before in

@@ -6,34 +6,26 @@ use Prim.Native.Nat.{_≤_}
 use native.Mathlib.Omega.{arith}
 use borrow.Author.Tests.{not-true, not-false}
 use lib.ListN.{length}
-use Rattle.frame.specs.Reading.{flaggedBytes, between}
+use Rattle.frame.specs.Reading.{flaggedBytes}
 use Rattle.frame.proofs.ReadLaws.{flagged-two, frame-no-room, frame-unflagged, frame-run, between-part, refuses}
 use borrow.Author.Needs.{needs}
 use Rattle.frame.proofs.reader.read_frame.Statement.{statement}
 use Rattle.frame.proofs.reader.read_frame.Tie as tie
-use Rattle.frame.proofs.reader.read_frame.Reads as reads
-use Rattle.frame.proofs.reader.read_frame.Lts as lts
-use Rattle.frame.proofs.reader.flagged.Reads as flagged-reads
-use Rattle.frame.proofs.reader.read_run.Reads as read-run-reads
 
--- src/reader.rt:27:9
 returns : tie.Need-returns
 returns c =
     let a = c .before .before .before .args in
     refuses _ 7 (a .out .now) (frame-no-room (length (a .out .now)) (a .bytes .now) (c .if1 .taken))
 
--- src/reader.rt:29:9
 flagged-requires : tie.Need-flagged-requires
 flagged-requires c κs = search needs
 
--- src/reader.rt:30:9
 returns-2 : tie.Need-returns-2
 returns-2 c =
     let a = c .before .before .before .before .before .args in
     let no = sym (c .before .flagged .ensures) ∙ not-true _ (c .if2 .taken) in
     refuses _ 1 (a .out .now) (frame-unflagged (length (a .out .now)) (a .bytes .now) (c .before .before .if1 .left) no)
 
--- src/reader.rt:32:16
 flags : (c : tie.Else2) → flaggedBytes (c .before .before .before .before .before .args .bytes .now) ≡ true
 flags c = sym (c .before .flagged .ensures) ∙ not-false _ (c .if2 .left)
 
@@ -43,27 +35,21 @@ two-bytes c = flagged-two _ (flags c)
 sub-last : tie.Need-sub-last
 sub-last c = let two = two-bytes c in omega (arith, two)
 
--- src/reader.rt:33:14
 sub-read-run : tie.Need-sub-read-run
 sub-read-run c = let two = two-bytes c in omega (arith, two)
 
--- src/reader.rt:33:14
 part-read-run-start : tie.Need-part-read-run-start
 part-read-run-start c = let two = two-bytes c in omega (arith, two)
 
--- src/reader.rt:33:14
 part-read-run-end : tie.Need-part-read-run-end
 part-read-run-end c = search needs
 
--- src/reader.rt:33:5
 read-run-requires : tie.Need-read-run-requires
 read-run-requires c κs = search needs
 
--- src/reader.rt:23:1
 same-length : tie.Need-same-length
 same-length c = search needs
 
--- src/reader.rt:23:1
 returns-3 : tie.Need-returns-3
 returns-3 c =
     let at-flags = c .before .before .before .before .before in

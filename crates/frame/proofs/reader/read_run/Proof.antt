@@ -1,10 +1,8 @@
 -- `frame::reader::read_run` meets its contract: the sent bytes that were copied are enough for the verdict of the whole run, the
 -- array holds the unstuffed content, and what `hand_out` did with it is what is read.
-use mathlib.Core.Path.{_≡_, refl, sym, _∙_}
-use mathlib.Core.List.{List}
-use Prim.Native.Nat.{ℕ}
+use mathlib.Core.Path.{refl, sym}
 use native.Mathlib.Omega.{arith}
-use lib.ListN.{length, replicate}
+use lib.ListN.{replicate}
 use lib.Seq.{length-take-le}
 use Rattle.frame.specs.Stuffing.{unstuff}
 use Rattle.frame.specs.Answers.{UnstuffsAs}
@@ -13,30 +11,19 @@ use Rattle.frame.proofs.ReadLaws.{run-refused, run-content, refuses}
 use borrow.Author.Needs.{needs}
 use Rattle.frame.proofs.reader.read_run.Statement.{statement}
 use Rattle.frame.proofs.reader.read_run.Tie as tie
-use Rattle.frame.proofs.reader.read_run.Reads as reads
-use Rattle.frame.proofs.reader.read_run.Lts as lts
-use Rattle.frame.proofs.reader.hand_out.Reads as hand-out-reads
-use Rattle.frame.proofs.reader.read_plain.Reads as read-plain-reads
-use Rattle.frame.proofs.reader.sent_count.Reads as sent-count-reads
-use Rattle.slices.proofs.put.Reads as put-reads
 
--- src/reader.rt:41:17
 slice-aggregate-put : tie.Need-slice-aggregate-put
 slice-aggregate-put c = search needs
 
--- src/reader.rt:41:5
 put-requires : tie.Need-put-requires
 put-requires c κs = search needs
 
--- src/reader.rt:42:9
 sent-count-requires : tie.Need-sent-count-requires
 sent-count-requires c κs = search needs
 
--- src/reader.rt:44:9
 read-plain-requires : tie.Need-read-plain-requires
 read-plain-requires c κs = search needs
 
--- src/reader.rt:46:9
 abbrev start : tie.After-read-plain → tie.Start
 start c = c .before .before .before .before .before .before .before .before .before
 
@@ -59,30 +46,24 @@ returns c =
     let run = a .run .now in
     refuses _ 1 (a .out .now) (run-refused run 1 (answer-fault run 1 _ (unstuffed (c .before) .answers) (c .if1 .taken) (omega arith)))
 
--- src/reader.rt:49:9
 returns-2 : tie.Need-returns-2
 returns-2 c =
     let a = start (c .before .before) .args in
     let run = a .run .now in
     refuses _ 2 (a .out .now) (run-refused run 2 (answer-fault run 2 _ (unstuffed (c .before .before) .answers) (c .if2 .taken) (omega arith)))
 
--- src/reader.rt:51:14
 array-share-prefix-content : tie.Need-array-share-prefix-content
 array-share-prefix-content c = filled-at c .fits
 
--- src/reader.rt:51:14
 slice-aggregate-hand-out : tie.Need-slice-aggregate-hand-out
 slice-aggregate-hand-out c = sym (length-take-le _ _ (filled-at (c .before) .fits))
 
--- src/reader.rt:51:5
 hand-out-requires : tie.Need-hand-out-requires
 hand-out-requires c κs = search needs
 
--- src/reader.rt:37:1
 same-length : tie.Need-same-length
 same-length c = search needs
 
--- src/reader.rt:37:1
 returns-3 : tie.Need-returns-3
 returns-3 c =
     let f = filled-at (c .before .before .before .before .before) in

@@ -5,58 +5,45 @@ use Rattle.frame.proofs.StuffLaws.{stuff-flag, stuff-escape, stuff-othe
 use borrow.Author.Needs.{needs}
 use Rattle.frame.proofs.writer.put_byte.Statement.{statement}
 use Rattle.frame.proofs.writer.put_byte.Tie as tie
-use Rattle.frame.proofs.writer.put_byte.Reads as reads
-use Rattle.frame.proofs.writer.put_byte.Lts as lts
-use Rattle.frame.proofs.writer.put_pair.Reads as put-pair-reads
 
--- src/writer.rt:83:9
 put-pair-requires : tie.Need-put-pair-requires
 put-pair-requires c κs =
     let start = c .before .before .before in
     rw (stuff-flag (start .args .byte) (c .before .if1 .taken)) at (start .pre)
 
--- src/writer.rt:83:9
 same-length : tie.Need-same-length
 same-length c = search needs
 
--- src/writer.rt:83:9
 returns : tie.Need-returns
 returns c =
     let start = c .before .before .before .before .before .before in
     rw (stuff-flag (start .args .byte) (c .before .before .before .before .if1 .taken)) (c .before .before .put-pair .ensures)
 
--- src/writer.rt:86:9
 put-pair-requires-2 : tie.Need-put-pair-requires-2
 put-pair-requires-2 c κs =
     let start = c .before .before .before .before in
     rw (stuff-escape (start .args .byte) (c .before .if2 .taken)) at (start .pre)
 
--- src/writer.rt:86:9
 same-length-2 : tie.Need-same-length-2
 same-length-2 c = search needs
 
--- src/writer.rt:86:9
 returns-2 : tie.Need-returns-2
 returns-2 c =
     let start = c .before .before .before .before .before .before .before in
     rw (stuff-escape (start .args .byte) (c .before .before .before .before .if2 .taken)) (c .before .before .put-pair2 .ensures)
 
--- src/writer.rt:88:5
 slice-write-out : tie.Need-slice-write-out
 slice-write-out c =
     let start = c .before .before .before in
     let room = rw (stuff-other (start .args .byte) (c .before .if1 .left) (c .if2 .left)) at (start .pre) in
     omega (arith, room)
 
--- src/writer.rt:89:5
 add-result : tie.Need-add-result
 add-result c = search needs
 
--- src/writer.rt:78:1
 same-length-3 : tie.Need-same-length-3
 same-length-3 c = search needs
 
--- src/writer.rt:78:1
 returns-3 : tie.Need-returns-3
 returns-3 c =
     let start = c .before .before .before in

@@ -1,6 +1,6 @@
 -- `frame::writer::put_frame` meets its contract: the lengths of the stuffed parts add up to the frame's, and the parts put one
 -- behind the other are the frame.
-use mathlib.Core.Path.{_≡_, refl, sym, ap, _∙_}
+use mathlib.Core.Path.{_≡_, sym, _∙_}
 use mathlib.Core.List.{List, _++_}
 use Prim.Native.Nat.{ℕ, _+_, _*_, _≤_, _<_}
 use native.Mathlib.Omega.{arith}
@@ -12,24 +12,16 @@ use Rattle.frame.proofs.WriteLaws.{framed-length, assembled, content-no
 use borrow.Author.Needs.{needs}
 use Rattle.frame.proofs.writer.put_frame.Statement.{statement}
 use Rattle.frame.proofs.writer.put_frame.Tie as tie
-use Rattle.frame.proofs.writer.put_frame.Reads as reads
-use Rattle.frame.proofs.writer.put_frame.Lts as lts
-use Rattle.frame.proofs.writer.put_stuffed.Reads as put-stuffed-reads
-use Rattle.frame.proofs.writer.stuffed_length.Reads as stuffed-length-reads
 
--- src/writer.rt:38:9
 stuffed-length-requires : tie.Need-stuffed-length-requires
 stuffed-length-requires c κs = search needs
 
--- src/writer.rt:39:9
 stuffed-length-requires-2 : tie.Need-stuffed-length-requires-2
 stuffed-length-requires-2 c κs = search needs
 
--- src/writer.rt:40:9
 stuffed-length-requires-3 : tie.Need-stuffed-length-requires-3
 stuffed-length-requires-3 c κs = search needs
 
--- src/writer.rt:41:18
 -- the three stuffed lengths, and that they are small
 record Sizes (head payload tail : List ℕ) (n m k : ℕ) : Type 0 where
   of-head : n ≡ length (stuff head)
@@ -65,32 +57,26 @@ sizes c =
 add-length : tie.Need-add-length
 add-length c = omega (arith, sizes c)
 
--- src/writer.rt:41:18
 add-length-2 : tie.Need-add-length-2
 add-length-2 c = omega (arith, sizes c)
 
--- src/writer.rt:41:18
 add-length-3 : tie.Need-add-length-3
 add-length-3 c = omega (arith, sizes c)
 
--- src/writer.rt:43:9
 returns : tie.Need-returns
 returns c =
     let at = c .before in
     let a = start at .args in
     refuses _ 7 (a .out .now) (content-no-room (length (a .out .now)) (a .head .now ++ a .payload .now ++ a .tail .now) _ (sizes at .whole) (c .if1 .taken))
 
--- src/writer.rt:45:5
 slice-write-out : tie.Need-slice-write-out
 slice-write-out c = search needs
 
--- src/writer.rt:46:9
 put-stuffed-requires : tie.Need-put-stuffed-requires
 put-stuffed-requires c κs =
     let at = c .before .before in
     simp length-set (omega (arith, sizes at, c .before .if1 .left))
 
--- src/writer.rt:47:9
 put-stuffed-requires-2 : tie.Need-put-stuffed-requires-2
 put-stuffed-requires-2 c κs =
     let at = c .before .before .before .before .before .before in
@@ -98,7 +84,6 @@ put-stuffed-requires-2 c κs =
     let put = c .before .before .before .put-stuffed in
     omega (arith, sizes at, c .before .before .before .before .before .if1 .left, put .ensures .0, put .kept .0, length-set out 0 0x7e)
 
--- src/writer.rt:48:9
 put-stuffed-requires-3 : tie.Need-put-stuffed-requires-3
 put-stuffed-requires-3 c κs =
     let at = c .before .before .before .before .before .before .before .before .before .before in
@@ -107,7 +92,6 @@ put-stuffed-requires-3 c κs =
     let put2 = c .before .before .before .put-stuffed2 in
     omega (arith, sizes at, c .before .before .before .before .before .before .before .before .before .if1 .left, put .ensures .0, put .kept .0, put2 .ensures .0, put2 .kept .0, length-set out 0 0x7e)
 
--- src/writer.rt:49:5
 -- where the last flag goes, and that the output has kept its length
 record Held (place n m : ℕ) : Type 0 where
   below : place < n
@@ -131,11 +115,9 @@ slice-write-out-2 c =
     let h = held c in
     omega (arith, h)
 
--- src/writer.rt:34:1
 same-length : tie.Need-same-length
 same-length c = simp length-set (held c .kept)
 
--- src/writer.rt:34:1
 returns-2 : tie.Need-returns-2
 returns-2 c =
     let at = c .before .before .before .before .before .before .before .before .before .before .before .before .before in

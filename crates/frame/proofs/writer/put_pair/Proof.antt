@@ -6,30 +6,22 @@ use lib.ListN.{length-set}
 use borrow.Author.Needs.{needs}
 use Rattle.frame.proofs.writer.put_pair.Statement.{statement}
 use Rattle.frame.proofs.writer.put_pair.Tie as tie
-use Rattle.frame.proofs.writer.put_pair.Reads as reads
-use Rattle.frame.proofs.writer.put_pair.Lts as lts
 
--- src/writer.rt:97:5
 slice-write-out : tie.Need-slice-write-out
 slice-write-out c = search needs
 
--- src/writer.rt:98:9
 add-out : tie.Need-add-out
 add-out c = search needs
 
--- src/writer.rt:98:5
 slice-write-out-2 : tie.Need-slice-write-out-2
 slice-write-out-2 c = simp length-set (omega arith)
 
--- src/writer.rt:99:5
 add-result : tie.Need-add-result
 add-result c = search needs
 
--- src/writer.rt:93:1
 same-length : tie.Need-same-length
 same-length c = search needs
 
--- src/writer.rt:93:1
 returns : tie.Need-returns
 returns c = (refl, rw add-one)
 

@@ -1,18 +1,15 @@
 -- `frame::writer::put_stuffed` meets its contract. The invariant says what is still to do: the bytes left, stuffed and put from the
 -- present place on, give what the whole string put at the start gives.
-use mathlib.Core.Path.{_≡_, refl, sym, ap, _∙_}
+use mathlib.Core.Path.{_≡_, refl, _∙_}
 use Prim.Native.Nat.{_+_, _-_, _≤_, _<_}
 use native.Mathlib.Omega.{arith}
-use lib.ListN.{length, drop, getD}
+use lib.ListN.{length, drop}
 use Rattle.slices.specs.Put.{putAt}
 use Rattle.slices.proofs.PutLaws.{put-append}
-use Rattle.frame.specs.Stuffing.{stuffByte, stuff}
+use Rattle.frame.specs.Stuffing.{stuff}
 use Rattle.frame.proofs.StuffLaws.{stuff-from, stuff-none, size-from, size-none}
 use Rattle.frame.proofs.writer.put_stuffed.Statement.{statement}
 use Rattle.frame.proofs.writer.put_stuffed.Tie as tie
-use Rattle.frame.proofs.writer.put_stuffed.Reads as reads
-use Rattle.frame.proofs.writer.put_stuffed.Lts as lts
-use Rattle.frame.proofs.writer.put_byte.Reads as put-byte-reads
 
 abbrev Inv-loop : tie.InvT-loop
 Inv-loop out₀ at content to₀ i₀ out to i =
@@ -24,15 +21,12 @@ Inv-loop out₀ at content to₀ i₀ out to i =
 abbrev μ-loop : tie.MeasureT-loop
 μ-loop out₀ at content to₀ i₀ out to i = length content - i
 
--- src/writer.rt:70:5
 loop-holds : tie.Need-loop-holds Inv-loop μ-loop
 loop-holds c = (omega arith, refl, refl, refl)
 
--- src/writer.rt:71:32
 shared-slice-read-put-byte : tie.Need-shared-slice-read-put-byte Inv-loop μ-loop
 shared-slice-read-put-byte c = omega arith
 
--- src/writer.rt:71:9
 put-byte-requires : tie.Need-put-byte-requires Inv-loop μ-loop
 put-byte-requires c κs =
     let loop = c .before .before .before .loop in
@@ -41,15 +35,12 @@ put-byte-requires c κs =
     let more : loop .i < length content = omega arith in
     omega (arith, size-from content (loop .i) more, start .pre)
 
--- src/writer.rt:72:9
 add-i : tie.Need-add-i Inv-loop μ-loop
 add-i c = omega arith
 
--- src/writer.rt:70:5
 loop-less : tie.Need-loop-less Inv-loop μ-loop
 loop-less c = omega arith
 
--- src/writer.rt:70:5
 loop-again : tie.Need-loop-again Inv-loop μ-loop
 loop-again c =
     let put = c .before .before .put-byte in
@@ -63,11 +54,9 @@ loop-again c =
       rw (put .ensures .0, put .ensures .1, put-append, ← rest) (loop .inv .3),
     )
 
--- src/writer.rt:64:1
 same-length : tie.Need-same-length Inv-loop μ-loop
 same-length c = c .before .loop .inv .2
 
--- src/writer.rt:64:1
 returns : tie.Need-returns Inv-loop μ-loop
 returns c =
     let loop = c .before .loop in

@@ -1,6 +1,6 @@
 -- `frame::writer::stuffed_length` meets its contract. The invariant says what is still to do: the sum so far with the stuffed
 -- length of the bytes left is that of all. It fits, since no byte becomes more than two.
-use mathlib.Core.Path.{_≡_, sym}
+use mathlib.Core.Path.{_≡_}
 use Prim.Native.Nat.{_+_, _-_, _≤_, _<_}
 use native.Mathlib.Nat.{zero-add}
 use native.Mathlib.Omega.{arith}
@@ -10,9 +10,6 @@ use Rattle.frame.specs.Stuffing.{stuff}
 use Rattle.frame.proofs.StuffLaws.{length-stuff, size-from, size-none}
 use Rattle.frame.proofs.writer.stuffed_length.Statement.{statement}
 use Rattle.frame.proofs.writer.stuffed_length.Tie as tie
-use Rattle.frame.proofs.writer.stuffed_length.Reads as reads
-use Rattle.frame.proofs.writer.stuffed_length.Lts as lts
-use Rattle.frame.proofs.writer.stuffed_size.Reads as stuffed-size-reads
 
 abbrev Inv-loop : tie.InvT-loop
 Inv-loop content total₀ i₀ total i = (i ≤ length content) × (total + length (stuff (drop i content)) ≡ length (stuff content))
@@ -20,19 +17,15 @@ Inv-loop content total₀ i₀ total i = (i ≤ length content) × (total + leng
 abbrev μ-loop : tie.MeasureT-loop
 μ-loop content total₀ i₀ total i = length content - i
 
--- src/writer.rt:51:5
 loop-holds : tie.Need-loop-holds Inv-loop μ-loop
 loop-holds c = (omega arith, zero-add _)
 
--- src/writer.rt:52:31
 shared-slice-read-stuffed-size : tie.Need-shared-slice-read-stuffed-size Inv-loop μ-loop
 shared-slice-read-stuffed-size c = omega arith
 
--- src/writer.rt:52:18
 stuffed-size-requires : tie.Need-stuffed-size-requires Inv-loop μ-loop
 stuffed-size-requires c κs = search needs
 
--- src/writer.rt:52:9
 add-total : tie.Need-add-total Inv-loop μ-loop
 add-total c =
     let loop = c .before .before .before .loop in
@@ -40,15 +33,12 @@ add-total c =
     let more : loop .i < length content = omega arith in
     omega (arith, size-from content (loop .i) more, length-stuff content, c .stuffed-size .ensures)
 
--- src/writer.rt:53:9
 add-i : tie.Need-add-i Inv-loop μ-loop
 add-i c = omega arith
 
--- src/writer.rt:51:5
 loop-less : tie.Need-loop-less Inv-loop μ-loop
 loop-less c = omega arith
 
--- src/writer.rt:51:5
 loop-again : tie.Need-loop-again Inv-loop μ-loop
 loop-again c =
     let loop = c .before .before .before .loop in
@@ -56,7 +46,6 @@ loop-again c =
     let more : loop .i < length content = omega arith in
     (omega arith, omega (arith, size-from content (loop .i) more, c .stuffed-size .ensures))
 
--- src/writer.rt:46:1
 returns : tie.Need-returns Inv-loop μ-loop
 returns c =
     let loop = c .before .loop in

@@ -5,10 +5,7 @@ use native.Mathlib.Omega.{arith}
 use Rattle.frame.proofs.StuffLaws.{stuff-other, two-bytes}
 use Rattle.frame.proofs.writer.stuffed_size.Statement.{statement}
 use Rattle.frame.proofs.writer.stuffed_size.Tie as tie
-use Rattle.frame.proofs.writer.stuffed_size.Reads as reads
-use Rattle.frame.proofs.writer.stuffed_size.Lts as lts
 
--- src/writer.rt:59:1
 returns : tie.Need-returns
 returns c =
     let b = c .before .before .args .byte in
@@ -16,7 +13,6 @@ returns c =
     let high : b ≤ 0x7e = omega arith in
     sym (two-bytes b low high)
 
--- src/writer.rt:59:1
 returns-2 : tie.Need-returns-2
 returns-2 c =
     let b = c .before .args .byte in
@@ -24,7 +20,6 @@ returns-2 c =
     let no-escape : b ≡ 0x7d → ⊥ = λ e. omega arith in
     rw (stuff-other b no-flag no-escape)
 
--- src/writer.rt:59:1
 returns-3 : tie.Need-returns-3
 returns-3 c =
     let b = c .before .before .args .byte in

@@ -1,60 +1,43 @@
 -- `frame::writer::write_frame` meets its contract: the check goes on over the payload from that of type and sequence, and what
 -- `put_frame` writes are the parts of the content.
-use mathlib.Core.Path.{_≡_, refl, sym, ap, _∙_}
-use native.Mathlib.Omega.{arith}
 use lib.ListN.{length}
 use Rattle.frame.proofs.WriteLaws.{content-parts, payload-too-long, payload-allowed, refuses}
 use borrow.Author.Needs.{needs}
 use Rattle.frame.proofs.writer.write_frame.Statement.{statement}
 use Rattle.frame.proofs.writer.write_frame.Tie as tie
-use Rattle.frame.proofs.writer.write_frame.Reads as reads
-use Rattle.frame.proofs.writer.write_frame.Lts as lts
-use Rattle.crc.proofs.check.Reads as check-reads
-use Rattle.frame.proofs.writer.put_frame.Reads as put-frame-reads
 
--- src/writer.rt:25:9
 returns : tie.Need-returns
 returns c =
     let a = c .before .before .before .args in
     refuses _ 8 (a .out .now) (payload-too-long (length (a .out .now)) (a .kind) (a .sequence) (a .payload .now) (c .if1 .taken))
 
--- src/writer.rt:28:52
 slice-aggregate-check : tie.Need-slice-aggregate-check
 slice-aggregate-check c = search needs
 
--- src/writer.rt:28:28
 check-requires : tie.Need-check-requires
 check-requires c κs = search needs
 
--- src/writer.rt:28:9
 check-requires-2 : tie.Need-check-requires-2
 check-requires-2 c κs = search needs
 
--- src/writer.rt:29:17
 cast-t13 : tie.Need-cast-t13
 cast-t13 c = search needs
 
--- src/writer.rt:29:40
 cast-t15 : tie.Need-cast-t15
 cast-t15 c = search needs
 
--- src/writer.rt:30:15
 slice-aggregate-put-frame : tie.Need-slice-aggregate-put-frame
 slice-aggregate-put-frame c = search needs
 
--- src/writer.rt:30:31
 slice-aggregate-put-frame-2 : tie.Need-slice-aggregate-put-frame-2
 slice-aggregate-put-frame-2 c = search needs
 
--- src/writer.rt:30:5
 put-frame-requires : tie.Need-put-frame-requires
 put-frame-requires c κs = search needs
 
--- src/writer.rt:21:1
 same-length : tie.Need-same-length
 same-length c = search needs
 
--- src/writer.rt:21:1
 returns-2 : tie.Need-returns-2
 returns-2 c =
     let a = c .before .before .before .before .before .before .before .before .before .before .before .before .args in

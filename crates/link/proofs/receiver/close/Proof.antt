@@ -1,11 +1,6 @@
 -- `link::receiver::close` meets its contract: each end computes to its own case, and a length past the array is all of it.
 use borrow.Author.Needs.{needs}
-use mathlib.Core.Path.{refl, sym}
-use Prim.Native.Nat.{_≤_}
-use native.Mathlib.Omega.{arith}
-use lib.ListN.{length}
-use lib.Seq.{length-take-le}
-use Rattle.link.proofs.ClosingLaws.{take-within}
+use mathlib.Core.Path.{refl}
 use Rattle.link.proofs.receiver.close.Statement.{statement}
 use Rattle.link.proofs.receiver.close.Tie as tie
 
@@ -21,14 +16,8 @@ refuse-requires c κs = search needs
 enum-known-ended-2 : tie.Need-enum-known-ended-2
 enum-known-ended-2 c = search needs
 
-within-requires : tie.Need-within-requires
-within-requires c κs = search needs
-
-slice-aggregate-take-frame : tie.Need-slice-aggregate-take-frame
-slice-aggregate-take-frame c =
-    let content = c .before .before .before .before .before .before .before .before .args .content .now in
-    let fits : c .before .within .result ≤ length content = omega (arith, c .before .within .ensures) in
-    sym (length-take-le (c .before .within .result) content fits)
+first-requires : tie.Need-first-requires
+first-requires c κs = search needs
 
 take-frame-requires : tie.Need-take-frame-requires
 take-frame-requires c κs = search needs
@@ -47,9 +36,8 @@ same-length-2 c = search needs
 
 returns-3 : tie.Need-returns-3
 returns-3 c =
-    let content = c .before .before .before .before .before .before .before .before .before .before .before .before .before .before .before .args .content .now in
-    let told = c .before .before .before .before .before .before .before .before .before .before .ended2 .given in
-    rw (told .1, ← take-within content (told .0 .0) _ (c .before .before .before .before .before .before .before .before .within .ensures)) (c .before .before .before .before .take-frame .ensures)
+    let frame = c .before .before .before .before in
+    rw (frame .before .before .before .before .before .ended2 .given .1, ← frame .before .before .before .first .ensures) (frame .take-frame .ensures)
 
 pub close-spec : {M : Type 1} → statement M
 close-spec =
@@ -59,8 +47,7 @@ close-spec =
     enum-known-ended
     refuse-requires
     enum-known-ended-2
-    within-requires
-    slice-aggregate-take-frame
+    first-requires
     take-frame-requires
     returns
     returns-2

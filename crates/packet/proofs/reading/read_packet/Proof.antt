@@ -1,0 +1,84 @@
+-- `packet::reading::read_packet` meets its contract: what the tests on the way say of the bytes settles which of the three
+-- answers it is.
+use mathlib.Core.Path.{_≡_, sym, _∙_}
+use mathlib.Core.Bool.{true}
+use Prim.Native.Nat.{_≤_}
+use native.Mathlib.Omega.{arith}
+use borrow.Author.Needs.{needs}
+use borrow.Author.Tests.{not-true, not-false}
+use lib.ListN.{length}
+use Rattle.packet.specs.Packet.{isData}
+use Rattle.packet.proofs.PacketLaws.{data-length, reading-no-data, reading-bad-items, reading-packet}
+use Rattle.packet.proofs.reading.read_packet.Statement.{statement}
+use Rattle.packet.proofs.reading.read_packet.Tie as tie
+
+is-data-requires : tie.Need-is-data-requires
+is-data-requires c κs = search needs
+
+returns : tie.Need-returns
+returns c = reading-no-data (c .before .before .before .args .s .now) 0x14 (sym (c .before .is-data .ensures) ∙ not-true _ (c .if1 .taken))
+
+is-data : (c : tie.Else1) → isData (c .before .before .before .args .s .now) ≡ true
+is-data c = sym (c .before .is-data .ensures) ∙ not-false _ (c .if1 .left)
+
+room : (c : tie.Else1) → 4 ≤ length (c .before .before .before .args .s .now)
+room c = data-length (c .before .before .before .args .s .now) (is-data c)
+
+tally-packet-requires : tie.Need-tally-packet-requires
+tally-packet-requires c κs = search needs
+
+enum-told : tie.Need-enum-told
+enum-told c = search needs
+
+enum-told-2 : tie.Need-enum-told-2
+enum-told-2 c = search needs
+
+returns-2 : tie.Need-returns-2
+returns-2 c =
+    reading-bad-items (c .before .before .before .before .before .before .args .s .now) 0x14 (is-data (c .before .before .before)) (sym (c .before .before .tally-packet .ensures) ∙ c .enum-told2 .given .1)
+
+shared-slice-read-opcode : tie.Need-shared-slice-read-opcode
+shared-slice-read-opcode c = let h = room (c .before .before .before .before) in omega arith
+
+shared-slice-read-high : tie.Need-shared-slice-read-high
+shared-slice-read-high c = let h = room (c .before .before .before .before .before) in omega arith
+
+cast-high : tie.Need-cast-high
+cast-high c = omega (arith, c .shared-slice-known3 .given 2)
+
+shared-slice-read-low : tie.Need-shared-slice-read-low
+shared-slice-read-low c = let h = room (c .before .before .before .before .before .before) in omega arith
+
+cast-low : tie.Need-cast-low
+cast-low c = omega (arith, c .shared-slice-known4 .given 3)
+
+mul-raised : tie.Need-mul-raised
+mul-raised c = omega (arith, c .shared-slice-known4 .given 2)
+
+add-id : tie.Need-add-id
+add-id c = omega (arith, c .shared-slice-known4 .given 2, c .shared-slice-known4 .given 3)
+
+returns-3 : tie.Need-returns-3
+returns-3 c =
+    let told = c .before .before .before .enum-told .given in
+    reading-packet (c .before .before .before .before .before .before .before .before .before .args .s .now) 0x14 (is-data (c .before .before .before .before .before .before))
+    (sym (c .before .before .before .before .before .tally-packet .ensures) ∙ told .1)
+
+pub read-packet-spec : {M : Type 1} → statement M
+read-packet-spec =
+    tie.close
+    (tie.spec
+    is-data-requires
+    returns
+    tally-packet-requires
+    enum-told
+    enum-told-2
+    returns-2
+    shared-slice-read-opcode
+    shared-slice-read-high
+    cast-high
+    shared-slice-read-low
+    cast-low
+    mul-raised
+    add-id
+    returns-3)

@@ -1,0 +1,125 @@
+// Data packets: the reader of a packet's first four bytes, and what its items are asked for.
+ghost use mathlib.Core.Path.{_≡_};
+ghost use lib.ListN.{length};
+ghost use Rattle.packet.specs.Items.{countOf};
+ghost use Rattle.packet.specs.Packet.{isData, packetOf, packetItems};
+ghost use Rattle.packet.specs.Answers.{findIn, behindIn, readingOf};
+ghost use Rattle.packet.specs.Walk.{packetTally, surveyOf};
+use crate::DATA;
+use crate::EOF_KIND;
+use crate::HEAD_LENGTH;
+use crate::items::Found;
+use crate::items::Tally;
+use crate::items::read_items;
+use refusals::BAD_ITEMS;
+use refusals::NO_DATA_PACKET;
+
+// What reading a packet gives: its opcode and request id, or the number of the refusal.
+pub enum Reading {
+    Packet { opcode: u8, id: u16 },
+    Refused(u8),
+}
+
+// How many items a packet has, how many of one kind, the first of these and the item right behind it.
+struct Survey {
+    all: usize,
+    count: usize,
+    first: Found,
+    behind: Found,
+}
+
+// Whether `s` has a data packet's first four bytes.
+fn is_data(s: &[u8]) -> bool
+    ensures { λ r. ⌜ r ≡ isData (now (s .entry)) ⌝ }
+{
+    if s.len() < HEAD_LENGTH {
+        return false;
+    }
+    s[0] == DATA
+}
+
+// What the item reader finds in a packet; `Broken` where the packet is refused. Whether it is does
+// not depend on the kind.
+fn tally_packet(s: &[u8], kind: u8) -> Tally
+    ensures { λ r. ⌜ r ≡ packetTally kind (now (s .entry)) ⌝ }
+{
+    let data = is_data(s);
+    if !data {
+        return Tally::Broken;
+    }
+    read_items(&s[HEAD_LENGTH..], kind, HEAD_LENGTH)
+}
+
+// The opcode and the request id of a packet, or refusal 9 or 10.
+pub fn read_packet(s: &[u8]) -> Reading
+    ensures { λ r. ⌜ r ≡ readingOf (packetOf (now (s .entry))) ⌝ }
+{
+    let data = is_data(s);
+    if !data {
+        return Reading::Refused(NO_DATA_PACKET);
+    }
+    let Tally::Items { .. } = tally_packet(s, EOF_KIND) else {
+        return Reading::Refused(BAD_ITEMS);
+    };
+    let opcode = s[1];
+    let high = s[2] as u16;
+    let low = s[3] as u16;
+    let raised = high * 256;
+    let id = raised + low;
+    Reading::Packet { opcode, id }
+}
+
+// What a packet's items are, and what they are to the kind; a refused packet has none.
+fn look_over(s: &[u8], kind: u8) -> Survey
+    ensures { λ r. ⌜ r ≡ surveyOf kind (packetItems (now (s .entry))) ⌝ }
+{
+    let Tally::Items {
+        all,
+        count,
+        first,
+        behind,
+        ..
+    } = tally_packet(s, kind)
+    else {
+        return Survey {
+            all: 0,
+            count: 0,
+            first: Found::Nothing,
+            behind: Found::Nothing,
+        };
+    };
+    Survey {
+        all,
+        count,
+        first,
+        behind,
+    }
+}
+
+// How many items a packet has; a refused one has none.
+pub fn count_all(s: &[u8]) -> usize
+    ensures { λ r. ⌜ r ≡ length (packetItems (now (s .entry))) ⌝ }
+{
+    look_over(s, EOF_KIND).all
+}
+
+// How many items of the kind a packet has; a refused one has none.
+pub fn count(s: &[u8], kind: u8) -> usize
+    ensures { λ r. ⌜ r ≡ countOf kind (packetItems (now (s .entry))) ⌝ }
+{
+    look_over(s, kind).count
+}
+
+// The first item of the kind in a packet; in a refused one nothing is found.
+pub fn find(s: &[u8], kind: u8) -> Found
+    ensures { λ r. ⌜ r ≡ findIn 4 kind (packetItems (now (s .entry))) ⌝ }
+{
+    look_over(s, kind).first
+}
+
+// The item right behind the first item of the kind in a packet; in a refused one nothing is found.
+pub fn behind(s: &[u8], kind: u8) -> Found
+    ensures { λ r. ⌜ r ≡ behindIn 4 kind (packetItems (now (s .entry))) ⌝ }
+{
+    look_over(s, kind).behind
+}

@@ -1,37 +1,21 @@
--- `transfer::fragment::value` meets its contract: the place that the packet's function answers is that of the item, so the bytes there are
--- its value.
-use mathlib.Core.Path.{_≡_, sym, ap, _∙_}
-use mathlib.Core.Option.{some}
+-- `packet::reading::value` meets its contract: the bytes at the place that `find` answers are the item's value.
+use mathlib.Core.Path.{_≡_, sym, _∙_}
 use Prim.Native.Nat.{_+_, _-_, _≤_}
 use native.Mathlib.Omega.{arith}
-use lib.ListN.{length, take, drop}
-use Rattle.packet.specs.Items.{Item, firstOf}
-use Rattle.packet.specs.Packet.{packetItems}
+use lib.ListN.{length}
+use Rattle.packet.specs.Items.{valueBytes}
 use Rattle.packet.specs.Answers.{itemAt}
-use Rattle.packet.proofs.FoundLaws.{find-reads}
-use Rattle.transfer.proofs.FormLaws.{value-some, value-none}
+use Rattle.packet.proofs.FoundLaws.{find-reads, value-found}
 use borrow.Author.Needs.{needs}
-use Rattle.transfer.proofs.fragment.value.Statement.{statement}
-use Rattle.transfer.proofs.fragment.value.Tie as tie
+use Rattle.packet.proofs.reading.value.Statement.{statement}
+use Rattle.packet.proofs.reading.value.Tie as tie
 
--- the item, where it was found
-abbrev item-at : tie.After-start → Item
-item-at c =
-    let given = c .start .given .0 in
-    record { kind = given .0; value = take (given .1 .1 .0) (drop (given .1 .0) (c .before .before .before .before .args .packet .now)) }
-
-first : (c : tie.After-start) → firstOf (c .before .before .before .before .args .kind) (packetItems (c .before .before .before .before .args .packet .now)) ≡ some (item-at c)
-unfolding itemAt
-first c =
-    let args = c .before .before .before .before .args in
-    let bytes = args .packet .now in
-    sym (find-reads bytes (args .kind) .same) ∙ ap (itemAt bytes) (sym (c .before .before .find .ensures) ∙ c .start .given .1)
-
-within : (c : tie.After-start) → c .start .given .0 .1 .0 + c .start .given .0 .1 .1 .0 ≤ length (c .before .before .before .before .args .packet .now)
+-- the item lies within the packet
+within : (c : tie.After-start) → c .start .given .0 .1 .0 + c .start .given .0 .1 .1 .0 ≤ length (c .before .before .before .before .args .s .now)
 within c =
     let args = c .before .before .before .before .args in
     let given = c .start .given in
-    find-reads (args .packet .now) (args .kind) .within (given .0 .0) (given .0 .1 .0) (given .0 .1 .1 .0) (sym (c .before .before .find .ensures) ∙ given .1)
+    find-reads (args .s .now) (args .kind) .within (given .0 .0) (given .0 .1 .0) (given .0 .1 .1 .0) (sym (c .before .before .find .ensures) ∙ given .1)
 
 find-requires : tie.Need-find-requires
 find-requires c κs = search needs
@@ -46,13 +30,11 @@ slice-aggregate-result : tie.Need-slice-aggregate-result
 slice-aggregate-result c = search needs
 
 returns : tie.Need-returns
-unfolding itemAt
+unfolding itemAt valueBytes
 returns c =
     let found = c .before .before .before in
     let args = found .before .before .args in
-    let bytes = args .packet .now in
-    let nothing = sym (find-reads bytes (args .kind) .same) ∙ ap (itemAt bytes) (sym (found .find .ensures) ∙ c .before .enum-told .given .1) in
-    sym (value-none (args .kind) (packetItems bytes) nothing)
+    value-found (args .s .now) (args .kind) _ (sym (found .find .ensures) ∙ c .before .enum-told .given .1)
 
 add-end : tie.Need-add-end
 add-end c = let h = within (c .before) in omega arith
@@ -67,12 +49,13 @@ part-result-end : tie.Need-part-result-end
 part-result-end c = within (c .before)
 
 returns-2 : tie.Need-returns-2
+unfolding itemAt valueBytes
 returns-2 c =
     let found = c .before .before in
-    let given = found .start .given .0 in
+    let given = found .start .given in
     let args = found .before .before .before .before .args in
-    let e : (given .1 .0 + given .1 .1 .0) - given .1 .0 ≡ given .1 .1 .0 = omega arith in
-    rw e (sym (value-some (args .kind) (packetItems (args .packet .now)) (item-at found) (first found)))
+    let size : (given .0 .1 .0 + given .0 .1 .1 .0) - given .0 .1 .0 ≡ given .0 .1 .1 .0 = omega arith in
+    rw size (value-found (args .s .now) (args .kind) _ (sym (found .before .before .find .ensures) ∙ given .1))
 
 pub value-spec : {M : Type 1} → statement M
 value-spec =

@@ -59,9 +59,11 @@ value-within c =
 -- its value
 judged : (c : tie.After-read-value) → c .read-value .result ≡ asValue (valueOf (value-at (c .before .before .before) .kind) (value-at (c .before .before .before) .value))
 judged c =
-    let given = c .before .before .before .kind .given .0 in
+    let place = c .before .before .before in
+    let given = place .kind .given .0 in
+    let bytes = place .before .before .before .before .before .before .before .args .packet .now in
     let size : (given .1 .0 + given .1 .1 .0) - given .1 .0 ≡ given .1 .1 .0 = omega arith in
-    rw size at (c .read-value .ensures)
+    c .read-value .ensures ∙ ap (λ (count : ℕ). asValue (valueOf (given .0) (take count (drop (given .1 .0) bytes)))) size
 
 good : (c : tie.After-value2) → valueOf (value-at (c .before .before .before .before .before) .kind) (value-at (c .before .before .before .before .before) .value) ≡ some (c .value2 .given .0 .0)
 good c =

@@ -16,7 +16,7 @@ use Rattle.packet.specs.Packet.{Judged, packet, judgedItems}
 use Rattle.packet.specs.Packet as judged
 use Rattle.packet.specs.Answers as packet-answers
 use Rattle.packet.specs.declared.reading.Reading.the-variants as packet-reading
-use Rattle.rows.specs.Names.{placeOf}
+use Rattle.rows.specs.Names.{placeOf, isIn}
 use Rattle.value.specs.Value.{valueOf}
 use Rattle.rows.specs.Rows.{rowNames, watched, updateBoard}
 use Rattle.board.specs.Reading.{nameKind, updateOpcode, Verdict, refused, Task, reject, finish, apply, taskOfItems, taskOf, valueOfItem, withValue, withName, verdictOf, ifWatched, updated, applied, refusedWith, readUpdate, asTask}
@@ -110,6 +110,10 @@ module _ (board : Board) (items : List Item) where
   update-bad-name bad = rw (named, bad)
 
   module _ (valid : validName (valueIn nameKind items) ≡ true) where
+    -- no unused row has a valid name
+    in-rows : isIn (valueIn nameKind items) (watched board) ≡ isIn (valueIn nameKind items) (rowNames board)
+    in-rows = in-used (valueIn nameKind items) (rowNames board) (valid-fit (valueIn nameKind items) valid .some)
+
     pub update-no-value : behindOf nameKind items ≡ none → readUpdate board items ≡ refusedWith board badValue
     unfolding valueOfItem withValue ifWatched applied
     update-no-value e = rw (named, valid, e)
@@ -122,10 +126,8 @@ module _ (board : Board) (items : List Item) where
       module _ (value : ℤ) (good : valueOf (item .kind) (item .value) ≡ some value) where
         pub update-unwatched : placeOf (valueIn nameKind items) (rowNames board) ≡ none → readUpdate board items ≡ refusedWith board notWatched
         unfolding valueOfItem withValue ifWatched applied
-        update-unwatched nowhere =
-            rw (named, valid, valued, good, in-used (valueIn nameKind items) (rowNames board) (valid-fit (valueIn nameKind items) valid .some), nowhere)
+        update-unwatched nowhere = rw (named, valid, valued, good, in-rows, nowhere)
 
         pub update-row : (place : ℕ) → placeOf (valueIn nameKind items) (rowNames board) ≡ some place → readUpdate board items ≡ record { board = updateBoard place value board; answer = Updated place }
         unfolding valueOfItem withValue ifWatched applied updated
-        update-row place there =
-            rw (named, valid, valued, good, in-used (valueIn nameKind items) (rowNames board) (valid-fit (valueIn nameKind items) valid .some), there) (ap (updated board value) there)
+        update-row place there = rw (named, valid, valued, good, in-rows, there) (ap (updated board value) there)

@@ -38,33 +38,35 @@ tested c = c .valid-name .ensures ∙ ap validName (c .before .value .ensures)
 valid : (c : tie.Else1) → validName (valueIn nameKind (items (c .before .before))) ≡ true
 valid c = sym (tested (c .before)) ∙ not-false (c .before .valid-name .result) (c .if1 .left)
 
--- the value item, where it was found
+-- the packet, where the value item was found
+abbrev packet : tie.After-kind → List ℕ
+packet c = c .before .before .before .before .before .before .before .args .packet .now
+
+-- the value item there
 abbrev value-at : tie.After-kind → Item
 value-at c =
     let given = c .kind .given .0 in
-    record { kind = given .0; value = take (given .1 .1 .0) (drop (given .1 .0) (c .before .before .before .before .before .before .before .args .packet .now)) }
+    record { kind = given .0; value = take (given .1 .1 .0) (drop (given .1 .0) (packet c)) }
 
 valued : (c : tie.After-kind) → behindOf nameKind (items (c .before .before .before .before .before)) ≡ some (value-at c)
 unfolding itemAt
 valued c =
-    let bytes = c .before .before .before .before .before .before .before .args .packet .now in
-    sym (value-reads bytes nameKind .same) ∙ ap (itemAt bytes) (sym (c .before .before .behind .ensures) ∙ c .kind .given .1)
+    sym (value-reads (packet c) nameKind .same) ∙ ap (itemAt (packet c)) (sym (c .before .before .behind .ensures) ∙ c .kind .given .1)
 
-value-within : (c : tie.After-kind) → c .kind .given .0 .1 .0 + c .kind .given .0 .1 .1 .0 ≤ length (c .before .before .before .before .before .before .before .args .packet .now)
+value-within : (c : tie.After-kind) → c .kind .given .0 .1 .0 + c .kind .given .0 .1 .1 .0 ≤ length (packet c)
 value-within c =
-    let bytes = c .before .before .before .before .before .before .before .args .packet .now in
     let given = c .kind .given in
-    value-reads bytes nameKind .within (given .0 .0) (given .0 .1 .0) (given .0 .1 .1 .0) (sym (c .before .before .behind .ensures) ∙ given .1)
+    value-reads (packet c) nameKind .within (given .0 .0) (given .0 .1 .0) (given .0 .1 .1 .0) (sym (c .before .before .behind .ensures) ∙ given .1)
 
--- its value
+-- what its bytes say
 judged : (c : tie.After-read-value) → c .read-value .result ≡ asValue (valueOf (value-at (c .before .before .before) .kind) (value-at (c .before .before .before) .value))
 judged c =
     let place = c .before .before .before in
     let given = place .kind .given .0 in
-    let bytes = place .before .before .before .before .before .before .before .args .packet .now in
     let size : (given .1 .0 + given .1 .1 .0) - given .1 .0 ≡ given .1 .1 .0 = omega arith in
-    c .read-value .ensures ∙ ap (λ (count : ℕ). asValue (valueOf (given .0) (take count (drop (given .1 .0) bytes)))) size
+    c .read-value .ensures ∙ ap (λ (count : ℕ). asValue (valueOf (given .0) (take count (drop (given .1 .0) (packet place))))) size
 
+-- the value, where they say one
 good : (c : tie.After-value2) → valueOf (value-at (c .before .before .before .before .before) .kind) (value-at (c .before .before .before .before .before) .value) ≡ some (c .value2 .given .0 .0)
 good c =
     let read = c .before .before in

@@ -6,7 +6,7 @@ use native.Mathlib.Omega.{arith}
 use lib.ListN.{length, drop, getD, length-drop, drop-of-length-le}
 use lib.Seq.{drop-cons}
 use borrow.Author.Tests.{eq-eqb, ne-eqb}
-use Rattle.cases.specs.Line.{until, keyOf, byteOf, bytesOf}
+use Rattle.cases.specs.Line.{until, keyOf, byteOf, bytesOf, withByte, numberFrom}
 
 module _ (mark : ℕ) (text : List ℕ) (i : ℕ) where
   pub passed-over : i < length text → (getD text i 0 ≡ mark → ⊥)
@@ -54,3 +54,12 @@ no-key (x ∷ xs) h = absurd (omega arith)
 pub first-key : (line : List ℕ) → getD line 0 0 ≡ keyOf line
 first-key [] = refl
 first-key (x ∷ xs) = refl
+
+module _ (number : ℕ) (bytes : List ℕ) (i : ℕ) where
+  pub one-byte : i < length bytes → numberFrom number (drop i bytes) ≡ numberFrom (withByte number (getD bytes i 0)) (drop (i + 1) bytes)
+  unfolding numberFrom
+  one-byte h = let next : i + 1 ≡ suc i = omega arith in rw (next, drop-cons bytes i 0 h)
+
+  pub no-byte : length bytes ≤ i → numberFrom number (drop i bytes) ≡ number
+  unfolding numberFrom
+  no-byte h = rw (drop-of-length-le bytes h)

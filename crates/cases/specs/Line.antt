@@ -33,3 +33,12 @@ bytesOf (s ∷ first ∷ second ∷ rest) = byteOf first second ∷ bytesOf rest
 -- those behind the first colon, which is the byte 58
 abbrev pub caseBytes : List ℕ → List ℕ
 caseBytes line = bytesOf (drop (length (until 58 line) + 1) line)
+
+-- a number with one byte more behind its last seven
+abbrev pub withByte : ℕ → ℕ → ℕ
+withByte number byte = number % 0x100000000000000 * 256 + byte
+
+-- the number that bytes make behind those read before them, high byte first
+unfoldable pub numberFrom : ℕ → List ℕ → ℕ
+numberFrom number [] = number
+numberFrom number (byte ∷ bytes) = numberFrom (withByte number byte) bytes

@@ -5,7 +5,7 @@ ghost use Prim.Native.Nat.{_≤_, _<_, min};
 ghost use lib.ListN.{length};
 ghost use Rattle.io.specs.Counts.{Counts};
 ghost use Rattle.slices.specs.Put.{putAt};
-ghost use Rattle.cases.specs.Line.{until, keyOf, digitOf, byteOf, caseBytes};
+ghost use Rattle.cases.specs.Line.{until, keyOf, digitOf, byteOf, caseBytes, withByte, numberFrom};
 
 // How many bytes the first line of a text has.
 pub fn length(text: &[u8]) -> usize
@@ -53,6 +53,25 @@ pub fn bytes(line: &[u8], out: &mut [u8]) -> usize
         at = end;
     }
     count
+}
+
+// The bytes of a line as one number, high byte first; of more than eight the last eight.
+pub fn number(bytes: &[u8]) -> u64
+    ensures { λ r. ⌜ r ≡ numberFrom 0 (now (bytes .entry)) ⌝ }
+{
+    let mut number: u64 = 0;
+    let mut i: usize = 0;
+    while i < bytes.len() {
+        number = with_byte(number, bytes[i]);
+        i += 1;
+    }
+    number
+}
+
+fn with_byte(number: u64, byte: u8) -> u64
+    ensures { λ r. ⌜ r ≡ withByte number byte ⌝ }
+{
+    number % 0x100_0000_0000_0000 * 256 + byte as u64
 }
 
 // The byte that two characters stand for.

@@ -1,38 +1,28 @@
-// A stream from standard input, cut in two at every place and into pieces of one byte, gives the same
-// replies, packets, counts and board as the whole. The stream: noise, case 6 with sequence 01 twice, a
-// frame with a bit changed, an escape byte right before a flag, an update of a name that is not
-// watched, two bytes between flags, an end mark, an acknowledgement, an update with sequence 7d, and
-// the first bytes of a frame.
+// A stream, cut in two at every place and into pieces of one byte, gives the same replies, packets,
+// counts and rows as the whole.
+use crate::calls::show_display;
 use crate::feeding::Passed;
 use crate::feeding::hive;
 use crate::feeding::pass;
-use crate::report::print_display;
-use crate::report::print_number;
-use crate::report::print_text;
+use cases::print;
 use display::Display;
+use history::lines::LINE_MAX;
 use link::counts::Counts;
 use rows::Board;
 use rows::Row;
-use rows::State;
 
-pub fn compare() {
-    print_text(b"cuts\n");
-    let mut buffer = [0u8; 256];
-    let length = io::read_full(0, &mut buffer);
-    compare_cuts(&buffer[..length]);
-}
-
-fn compare_cuts(stream: &[u8]) {
+pub fn compare(stream: &[u8]) -> Display {
     let whole = pass(start(), stream, true);
-    print_display(whole.display);
-    print_number(b"check ", whole.check as u64);
-    print_number(b"\ncuts ", stream.len() as u64 + 1);
-    print_number(b" alike ", alike(stream, whole) as u64);
-    print_number(
+    show_display(whole.display);
+    print::number(b"check ", whole.check as u64);
+    print::number(b"\ncuts ", stream.len() as u64 + 1);
+    print::number(b" alike ", alike(stream, whole) as u64);
+    print::number(
         b"\nbyte by byte alike ",
         same(byte_by_byte(stream), whole) as u64,
     );
-    print_text(b"\n");
+    print::text(b"\n");
+    whole.display
 }
 
 fn start() -> Passed {
@@ -80,44 +70,33 @@ fn same(cut: Passed, whole: Passed) -> bool {
     if cut.check != whole.check {
         return false;
     }
-    same_display(cut.display, whole.display)
-}
-
-fn same_display(cut: Display, whole: Display) -> bool {
-    let link = cut.link;
-    let other = whole.link;
-    if same_counts(link.counts, other.counts) {
-        return same_board(cut.board, whole.board);
+    let display = cut.display;
+    let other = whole.display;
+    let link = display.link;
+    let other_link = other.link;
+    if same_counts(link.counts, other_link.counts) {
+        return same_rows(display.board, other.board);
     }
     false
 }
 
+// Counts and rows are the same where the lines that tell them are.
 fn same_counts(cut: Counts, whole: Counts) -> bool {
-    let some = [cut.new, cut.again, cut.heard, cut.unread];
-    let others = [whole.new, whole.again, whole.heard, whole.unread];
-    if same_numbers(&some, &others) {
-        let refused = cut.refused;
-        let refused_whole = whole.refused;
-        return same_numbers(&refused, &refused_whole);
+    let mut line = [0u8; LINE_MAX];
+    let mut other = [0u8; LINE_MAX];
+    history::lines::counts(&mut line, cut);
+    history::lines::counts(&mut other, whole);
+    if !slices::same(&line, &other) {
+        return false;
     }
-    false
+    let refused = cut.refused;
+    let other_refused = whole.refused;
+    history::lines::refused(&mut line, &refused);
+    history::lines::refused(&mut other, &other_refused);
+    slices::same(&line, &other)
 }
 
-fn same_numbers(some: &[u16], others: &[u16]) -> bool {
-    let mut i: usize = 0;
-    while i < some.len() {
-        if others.len() <= i {
-            return false;
-        }
-        if some[i] != others[i] {
-            return false;
-        }
-        i += 1;
-    }
-    some.len() == others.len()
-}
-
-fn same_board(cut: Board, whole: Board) -> bool {
+fn same_rows(cut: Board, whole: Board) -> bool {
     let mut i: usize = 0;
     while i < rows::ROWS {
         let row = cut.rows[i];
@@ -131,52 +110,9 @@ fn same_board(cut: Board, whole: Board) -> bool {
 }
 
 fn same_row(cut: Row, whole: Row) -> bool {
-    if cut.length != whole.length {
-        return false;
-    }
-    let name = cut.name;
-    let other = whole.name;
-    if slices::same(&name, &other) {
-        let state = cut.state;
-        let state_whole = whole.state;
-        return same_state(state, state_whole);
-    }
-    false
-}
-
-fn same_state(cut: State, whole: State) -> bool {
-    match cut {
-        State::Never => is_never(whole),
-        State::Current { value, age } => is_current(whole, value, age),
-        State::Silent => is_silent(whole),
-    }
-}
-
-fn is_never(state: State) -> bool {
-    match state {
-        State::Never => true,
-        _ => false,
-    }
-}
-
-fn is_silent(state: State) -> bool {
-    match state {
-        State::Silent => true,
-        _ => false,
-    }
-}
-
-fn is_current(state: State, value: i64, age: u8) -> bool {
-    match state {
-        State::Current {
-            value: other,
-            age: other_age,
-        } => {
-            if value == other {
-                return age == other_age;
-            }
-            false
-        }
-        _ => false,
-    }
+    let mut line = [0u8; LINE_MAX];
+    let mut other = [0u8; LINE_MAX];
+    history::lines::row(&mut line, cut);
+    history::lines::row(&mut other, whole);
+    slices::same(&line, &other)
 }

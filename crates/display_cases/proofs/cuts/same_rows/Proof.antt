@@ -1,9 +1,9 @@
--- `display_cases::cuts::same_board` is safe and ends: the measure is what is left of the rows.
+-- `display_cases::cuts::same_rows` is safe and ends: the measure is what is left of the rows.
 use Prim.Native.Nat.{_-_, _≤_}
 use borrow.Author.Needs.{needs}
 use Rattle.rows.specs.Rows.{rowCount}
-use Rattle.display_cases.proofs.cuts.same_board.Statement.{statement}
-use Rattle.display_cases.proofs.cuts.same_board.Tie as tie
+use Rattle.display_cases.proofs.cuts.same_rows.Statement.{statement}
+use Rattle.display_cases.proofs.cuts.same_rows.Tie as tie
 
 abbrev Inv-loop : tie.InvT-loop
 Inv-loop cut whole i₀ i = i ≤ rowCount
@@ -44,8 +44,8 @@ loop-again c = search needs
 returns-2 : tie.Need-returns-2 Inv-loop μ-loop
 returns-2 c = search needs
 
-pub same-board-spec : {M : Type 1} → statement M
-same-board-spec =
+pub same-rows-spec : {M : Type 1} → statement M
+same-rows-spec =
     tie.close
     (tie.spec
     Inv-loop

@@ -1,0 +1,59 @@
+// Calls of the display, and what they answer.
+use cases::print;
+use display::Answer;
+use display::Display;
+
+pub fn short_reply(display: Display, piece: &[u8]) -> Display {
+    let mut reply = [0u8; 8];
+    let mut packet = [0u8; 383];
+    call(display, piece, &mut reply, &mut packet)
+}
+
+pub fn short_packet(display: Display, piece: &[u8]) -> Display {
+    let mut reply = [0u8; 9];
+    let mut packet = [0u8; 382];
+    call(display, piece, &mut reply, &mut packet)
+}
+
+fn call(display: Display, piece: &[u8], reply: &mut [u8], packet: &mut [u8]) -> Display {
+    let received = display::receive(display, piece, reply, packet);
+    let answer = received.answer;
+    show_answer(received.taken, answer, reply, packet);
+    received.display
+}
+
+pub fn show_answer(taken: usize, answer: Answer, reply: &[u8], packet: &[u8]) {
+    print::number(b"taken ", taken as u64);
+    match answer {
+        Answer::Nothing => print::text(b" nothing"),
+        Answer::Refused(number) => print::number(b" refused ", number as u64),
+        Answer::Heard(sequence) => print::number(b" heard ", sequence as u64),
+        Answer::Again(length) => print::bytes(b" again reply ", reply, length),
+        Answer::New {
+            reply: reply_length,
+            packet: packet_length,
+            reading,
+        } => {
+            print::bytes(b" new reply ", reply, reply_length);
+            print::bytes(b" packet ", packet, packet_length);
+            show_reading(reading);
+        }
+    }
+    print::text(b"\n");
+}
+
+fn show_reading(reading: board::Answer) {
+    match reading {
+        board::Answer::Updated(row) => print::number(b" row ", row as u64),
+        board::Answer::EndMark => print::text(b" end mark"),
+        board::Answer::Refused(number) => print::number(b" unread ", number as u64),
+    }
+}
+
+// The counts, then the rows that have a name.
+pub fn show_display(display: Display) -> Display {
+    let link = display.link;
+    reports::counts(link.counts);
+    reports::rows(display.board);
+    display
+}

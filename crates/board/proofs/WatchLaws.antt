@@ -53,7 +53,7 @@ abbrev pub Fits : List (List ℕ) → Type 0
 Fits [] = Unit {0}
 Fits (name ∷ names) = Fit name × Fits names
 
-none-empty : (names : List (List ℕ)) → Fits names → NoneEmpty names
+pub none-empty : (names : List (List ℕ)) → Fits names → NoneEmpty names
 none-empty [] h = tt
 none-empty (name ∷ names) h = (h .0 .some, none-empty names (h .1))
 

@@ -11,7 +11,6 @@ use Rattle.packet.specs.Names.{validName}
 use Rattle.packet.specs.Items.{Item, eofKind, countOf, firstOf, behindOf}
 use Rattle.packet.specs.Packet as judged
 use Rattle.packet.specs.Packet.{Judged, packetOf}
-use Rattle.rows.specs.Entries.{Entry, updateEntries}
 use Rattle.rows.specs.Names.{placeOf, isIn}
 use Rattle.value.specs.Value.{valueOf}
 use Rattle.rows.specs.Rows.{rowNames, watched, updateBoard}
@@ -102,12 +101,6 @@ applied board (update name value) = updated board value (placeOf name (rowNames 
 -- the board after a packet, and the answer
 unfoldable pub readBoard : Board → List ℕ → Reading
 readBoard board bytes = applied board (readingOf (watched board) bytes)
-
--- what becomes of the entries of a board: an update makes that of its name current, nothing else changes one
-unfoldable pub entriesAfter : Verdict → List Entry → List Entry
-entriesAfter (refused number) entries = entries
-entriesAfter endMark entries = entries
-entriesAfter (update name value) entries = updateEntries name value entries
 
 -- the board after a packet with the items, when they have one Name
 unfoldable pub readUpdate : Board → List Item → Reading

@@ -105,7 +105,7 @@ fn read_update(board: Board, packet: &[u8]) -> Reading
         length: count,
     } = packet::behind(packet, NAME_KIND)
     else {
-        return refused(board, refusals::BAD_VALUE);
+        return refused(board, refusals::BAD_VALUE); // nothing behind the Name
     };
     let last = first + count;
     let Value::Number(value) = read_value(kind, &packet[first..last]) else {

@@ -7,14 +7,15 @@ use mathlib.Core.Option.{Option, some, none}
 use Prim.Native.Nat.{ℕ}
 use native.Mathlib.Omega.{arith}
 use Rattle.rows.specs.Entries as shown
-use Rattle.rows.specs.Entries.{entries, freshEntry}
+use Rattle.rows.specs.Entries.{freshEntry, boardShowing}
 use Rattle.rows.specs.Rows.{boardOf}
 use Rattle.rows.specs.declared.Board.{Board}
 use Rattle.board.specs.WatchList.{Good, watchNames, asWatched}
 use Rattle.board.specs.declared.list.Listed.the-variants.{Accepted}
 use Rattle.board.specs.declared.list.Watched.{Watched}
 use Rattle.board.proofs.WatchLaws as watch-laws
-use Rattle.board.proofs.EntryLaws.{fresh-entries, list-good}
+use Rattle.rows.proofs.EntryLaws.{fresh-showing}
+use Rattle.board.proofs.EntryLaws.{list-good}
 use Rattle.link.proofs.OursLaws.{ours-fresh}
 use Rattle.display.specs.Display as display
 use Rattle.display.specs.declared.Display.{Display}
@@ -35,8 +36,8 @@ pub record IsLedgers (fields : List ℕ) (cs : List Call) (left : List Left) (en
   pub answers : left ≡ map (asLeft names) (given (start names) cs)
   -- each count modulo 65,536
   pub counts : end .link .counts ≡ asCounts (after (start names) cs .counts)
-  -- the name and the state of each row in use
-  pub board : entries (end .board) ≡ map asEntry (after (start names) cs .entries)
+  -- the board, with all its rows, is the one that shows the ledger's entries
+  pub board : end .board ≡ boardShowing (map asEntry (after (start names) cs .entries))
 
 fresh-shown : (names : List (List ℕ)) → map freshEntry names ≡ map asEntry (map unheard names)
 fresh-shown [] = refl
@@ -46,14 +47,14 @@ pub fresh-named : (names : List (List ℕ)) → map nameOf (map unheard names) �
 fresh-named [] = refl
 fresh-named (n ∷ names) = ap (λ (l : List (List ℕ)). n ∷ l) (fresh-named names)
 
-pub fresh-agrees : (names : List (List ℕ)) → Good names → Agrees names (start names) (display.fresh (boardOf names))
-fresh-agrees names ours =
+pub fresh-agrees : (names : List (List ℕ)) → Agrees names (start names) (display.fresh (boardOf names))
+fresh-agrees names =
     record {
       ours = ours-fresh;
       standing = refl;
       last-is = refl;
       counts-are = refl;
-      shows = record { rows-show = fresh-entries names ours ∙ fresh-shown names; named = fresh-named names; in-rows = refl };
+      shows = record { showing = fresh-showing names ∙ ap boardShowing (fresh-shown names); named = fresh-named names };
     }
 
 -- a fresh start has the names of the list that was accepted
@@ -100,11 +101,11 @@ pub every-list : (fields : List ℕ) (d : Display) → Begins fields d → (cs :
 every-list fields d begins cs left end chain =
     let b = began fields d begins in
     let ours = list-good fields (b .names) (b .listed) in
-    let all = chain-agrees (b .names) (watch-laws.good-fits (b .names) (ours .valid)) (start (b .names)) chain (subst⁻¹ (λ (x : Display). Agrees (b .names) (start (b .names)) x) (b .is) (fresh-agrees (b .names) ours)) in
+    let all = chain-agrees (b .names) (watch-laws.good-fits (b .names) (ours .valid)) (start (b .names)) chain (subst⁻¹ (λ (x : Display). Agrees (b .names) (start (b .names)) x) (b .is) (fresh-agrees (b .names))) in
     record {
       names = b .names;
       watch-list = b .listed;
       answers = all .gives;
       counts = all .agrees .counts-are;
-      board = all .agrees .shows .rows-show;
+      board = all .agrees .shows .showing;
     }

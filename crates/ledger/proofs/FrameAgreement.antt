@@ -9,18 +9,17 @@ use lib.Dec.{eqb}
 use lib.IntN.{ℤ}
 use lib.ListN.{length, replicate}
 use Rattle.frame.specs.Content as content
-use Rattle.rows.specs.Entries as shown
-use Rattle.rows.specs.Entries.{entries, updateEntries}
+use Rattle.rows.specs.Entries.{entryName, boardShowing}
 use Rattle.rows.specs.Names.{placeOf}
-use Rattle.rows.specs.Rows.{rowCount, rowNames, watched, updateBoard, boardOf}
+use Rattle.rows.specs.Rows.{rowCount, rowNames, watched, updateBoard}
 use Rattle.rows.specs.declared.Board.{Board}
-use Rattle.rows.proofs.EntryLaws.{entry-names}
+use Rattle.rows.proofs.EntryLaws.{Named, showing-names, update-showing}
 use Rattle.board.specs.Reading as reading
-use Rattle.board.specs.Reading.{Verdict, readingOf, readBoard, entriesAfter}
+use Rattle.board.specs.Reading.{Verdict, readingOf}
 use Rattle.board.specs.declared.reading.Reading as declared-reading
 use Rattle.board.specs.declared.reading.Answer.the-variants as board-says
 use Rattle.board.proofs.WatchLaws.{Fits}
-use Rattle.board.proofs.EntryLaws.{There, read-entries, read-refused, read-end, read-update, update-there}
+use Rattle.board.proofs.EntryLaws.{There, rows-named, showing-watched, read-refused, read-end, read-update, update-there}
 use Rattle.link.specs.Closing.{Outcome, dataType, acknowledgementType, acknowledgement, repeats, acknowledgementFrame, againFrame, newFrame, dataFrame, refusedFrame, readOutcome}
 use Rattle.link.specs.Receiving.{callOf, withUnreadPacket}
 use Rattle.link.specs.declared.receiver.Link.{Link}
@@ -42,7 +41,7 @@ use Rattle.ledger.specs.Calls as calls
 use Rattle.ledger.specs.Calls.{Effect, repeated, closed, afterNew, afterReading}
 use Rattle.ledger.specs.Shown.{asCounts, asLast, asEntry, asPlace, asReading, asAnswer}
 use Rattle.ledger.proofs.CountAgreement.{count-new, count-again, count-heard, count-unread, count-refused}
-use Rattle.ledger.proofs.RowAgreement.{entries-updated, names-updated, row-names-update, row-names-fresh, place-listed}
+use Rattle.ledger.proofs.RowAgreement.{entries-updated, names-updated, names-shown, place-listed}
 
 -- what a frame does to the link, by what it is
 abbrev pub linkOutcome : Frame → Last → link-counts.Counts → Outcome
@@ -63,11 +62,10 @@ read-by-type (content.frame kind sequence payload) previous before =
     cases false true false a b c = rw (a, b, c)
     cases false false v a b c = rw (a, b)
 
--- what board and entries have in common
+-- the board shows what the ledger holds of each name, and the names are those of the watch list
 pub record Shows (names : List (List ℕ)) (es : List Entry) (board : Board) : Type 0 where
-  pub rows-show : entries board ≡ map asEntry es
+  pub showing : board ≡ boardShowing (map asEntry es)
   pub named : map nameOf es ≡ names
-  pub in-rows : rowNames board ≡ rowNames (boardOf names)
 
 -- the result of a call and the ledger's effect agree
 pub record Effects (names : List (List ℕ)) (w : Walk) (result : Received) (reply packet : List ℕ) (e : Effect) : Type 0 where
@@ -81,14 +79,16 @@ pub record Effects (names : List (List ℕ)) (w : Walk) (result : Received) (rep
   pub counts-are : result .display .link .counts ≡ asCounts (e .ledger .counts)
   pub shows : Shows names (e .ledger .entries) (result .display .board)
 
--- the names that the board watches are the ledger's
-names-shown : (es : List Entry) → map (λ (e : shown.Entry). e .name) (map asEntry es) ≡ map nameOf es
-names-shown [] = refl
-names-shown (e ∷ es) = ap (λ (l : List (List ℕ)). e .name ∷ l) (names-shown es)
-
 module _ (names : List (List ℕ)) (fit : Fits names) (w : Walk) (l : Ledger) (board : Board) (shows₀ : Shows names (l .entries) board) where
+  -- the names that the board watches are the ledger's
+  shown-are : map entryName (map asEntry (l .entries)) ≡ names
+  shown-are = names-shown (l .entries) ∙ shows₀ .named
+
+  rows-have : Named (map asEntry (l .entries))
+  rows-have = rows-named (map asEntry (l .entries)) (rw shown-are fit)
+
   watched-is : watched board ≡ map nameOf (l .entries)
-  watched-is = sym (entry-names board) ∙ ap (map (λ (e : shown.Entry). e .name)) (shows₀ .rows-show) ∙ names-shown (l .entries)
+  watched-is = ap watched (shows₀ .showing) ∙ showing-watched (map asEntry (l .entries)) (rw shown-are fit) ∙ names-shown (l .entries)
 
   abbrev outcome : Frame → Outcome
   outcome f = linkOutcome f (asLast (l .sequence)) (asCounts (l .counts))
@@ -177,25 +177,23 @@ module _ (names : List (List ℕ)) (fit : Fits names) (w : Walk) (l : Ledger) (b
     -- the row of an update is its name's place in the watch list
     place-is : (name : List ℕ) → (t : There board name) → placeOf name names ≡ some (t .place)
     place-is name t =
-        sym (place-listed name names (rowCount - length names) 0 (t .named))
-        ∙ ap (placeOf name) (sym (row-names-fresh names fit) ∙ sym (shows₀ .in-rows))
-        ∙ t .stands
+        let es = map asEntry (l .entries) in
+        let in-rows : rowNames board ≡ names ++ replicate (rowCount - length es) [] =
+        ap rowNames (shows₀ .showing) ∙ showing-names es rows-have ∙ ap (λ (ns : List (List ℕ)). ns ++ replicate (rowCount - length es) []) shown-are in
+        sym (place-listed name names (rowCount - length es) 0 (t .named)) ∙ ap (placeOf name) (sym in-rows) ∙ t .stands
 
-    update-agrees : (name : List ℕ) (value : ℤ) (t : There board name) → readingOf (watched board) payload ≡ reading.update name value
+    update-agrees : (name : List ℕ) (value : ℤ) (t : There board name)
         → AgreedBy (record { board = updateBoard (t .place) value board; answer = board-says.Updated (t .place) }) (reading.update name value)
-    unfolding entriesAfter
-    update-agrees name value t e =
-        let is = read-update board payload name value (t .place) e (t .stands) in
-        let after : entries (updateBoard (t .place) value board) ≡ updateEntries name value (entries board) =
-        sym (ap (λ (r : declared-reading.Reading). entries (r .board)) is)
-        ∙ read-entries board payload
-        ∙ ap (λ (v : Verdict). entriesAfter v (entries board)) e in
+    update-agrees name value t =
         let here = ap asPlace (place-is name t) in
+        let stands = ap (λ (b : Board). placeOf name (rowNames b)) (sym (shows₀ .showing)) ∙ t .stands in
         read-agrees _ (reading.update name value) (callOf w fresh .link) refl (sym here) refl refl refl (count-new (l .counts))
         (record {
-          rows-show = after ∙ ap (updateEntries name value) (shows₀ .rows-show) ∙ entries-updated name value (l .entries);
+          showing =
+              ap (updateBoard (t .place) value) (shows₀ .showing)
+              ∙ update-showing (map asEntry (l .entries)) name (t .place) value rows-have (t .named) stands
+              ∙ ap boardShowing (entries-updated name value (l .entries));
           named = names-updated name value (l .entries) ∙ shows₀ .named;
-          in-rows = row-names-update (t .place) value board ∙ shows₀ .in-rows;
         })
 
     new-agrees : Agreed fresh (calls.newFrame l sequence payload)
@@ -204,7 +202,7 @@ module _ (names : List (List ℕ)) (fit : Fits names) (w : Walk) (l : Ledger) (b
         by-row : (name : List ℕ) (value : ℤ) (t : There board name) → readingOf (watched board) payload ≡ reading.update name value
             → readingOf (map nameOf (l .entries)) payload ≡ reading.update name value → Agreed fresh (calls.newFrame l sequence payload)
         by-row name value t watching e =
-            rw (read-update board payload name value (t .place) watching (t .stands), e) (update-agrees name value t watching)
+            rw (read-update board payload name value (t .place) watching (t .stands), e) (update-agrees name value t)
 
         by-verdict : (v : Verdict) → readingOf (map nameOf (l .entries)) payload ≡ v → Agreed fresh (calls.newFrame l sequence payload)
         by-verdict (reading.refused n) e =

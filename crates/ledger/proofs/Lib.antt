@@ -6,4 +6,5 @@ pub mod StepAgreement
 pub mod Chain
 pub mod EveryList
 pub mod HistoryLaws
+pub mod HandedLaws
 pub mod OwnersWords

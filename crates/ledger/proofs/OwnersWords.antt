@@ -12,7 +12,7 @@ use lib.ListN.{length}
 use borrow.Author.Tests.{lt-ltb, le-ltb, ltb-true, not-true}
 use Rattle.slices.specs.Same.{sameBytes}
 use Rattle.rows.specs.Entries as shown
-use Rattle.rows.specs.Entries.{entries}
+use Rattle.rows.specs.Entries.{boardShowing}
 use Rattle.rows.specs.Names.{placeFrom, isSome, isIn}
 use Rattle.slices.proofs.SameLaws.{same-equal}
 use Rattle.board.specs.Reading as reading
@@ -29,27 +29,32 @@ use Rattle.ledger.specs.Calls as calls
 use Rattle.ledger.specs.Answers.{Call, Given}
 use Rattle.ledger.specs.Calls.{Effect, repeated, closed, effectOf, withRun, pieceStep, shortStep, step, given, after}
 use Rattle.ledger.specs.History.{Event, history, Handed, handedOut, afterHistory, handedInHistory, byReading, byAnswer, byGiven, lastUpdate}
-use Rattle.ledger.specs.Shown.{asCounts, asState, asEntry, Left}
+use Rattle.ledger.specs.Shown.{asCounts, asState, asEntry, Left, allHanded}
 use Rattle.ledger.proofs.Chain.{Begins, Chain}
-use Rattle.ledger.proofs.EveryList.{every-list, fresh-named}
+use Rattle.ledger.proofs.EveryList.{IsLedgers, every-list, fresh-named}
 use Rattle.ledger.proofs.HistoryLaws.{after-history, handed-history}
+use Rattle.ledger.proofs.HandedLaws.{all-handed}
 
 -- ---- cuts
 
-pub record Alike (names : List (List ℕ)) (cs cs₁ : List Call) (end end₁ : Display) : Type 0 where
-  -- replies and packets, in order
-  pub handed : handedOut (start names) cs ≡ handedOut (start names) cs₁
+pub record Alike (left left₁ : List Left) (end end₁ : Display) : Type 0 where
+  -- replies and packets, in order, as they stand in the buffers
+  pub handed : allHanded left ≡ allHanded left₁
   pub counts : end .link .counts ≡ end₁ .link .counts
-  pub rows : entries (end .board) ≡ entries (end₁ .board)
+  pub board : end .board ≡ end₁ .board
 
 same-names : {found : Option (List (List ℕ))} {names names₁ : List (List ℕ)} → found ≡ some names → found ≡ some names₁ → names₁ ≡ names
 same-names a b = cc
+
+handed-out : {fields : List ℕ} {cs : List Call} {left : List Left} {end : Display} (names : List (List ℕ)) → watchNames fields ≡ some names
+    → IsLedgers fields cs left end → allHanded left ≡ handedOut (start names) cs
+handed-out {cs = cs} names listed is = ap allHanded (rw (same-names listed (is .watch-list)) at (is .answers)) ∙ all-handed names (start names) cs
 
 -- THEOREM. Lists of calls with the same watch list and the same history agree in replies, packets, counts and board, wherever the
 -- pieces were cut.
 pub same-history : (fields : List ℕ) (names : List (List ℕ)) → watchNames fields ≡ some names
     → (d d₁ : Display) → Begins fields d → Begins fields d₁ → (cs cs₁ : List Call) (left left₁ : List Left) (end end₁ : Display)
-    → Chain d cs left end → Chain d₁ cs₁ left₁ end₁ → history (start names) cs ≡ history (start names) cs₁ → Alike names cs cs₁ end end₁
+    → Chain d cs left end → Chain d₁ cs₁ left₁ end₁ → history (start names) cs ≡ history (start names) cs₁ → Alike left left₁ end end₁
 same-history fields names listed d d₁ b b₁ cs cs₁ left left₁ end end₁ c c₁ same =
     let one = every-list fields d b cs left end c in
     let two = every-list fields d₁ b₁ cs₁ left₁ end₁ c₁ in
@@ -57,14 +62,19 @@ same-history fields names listed d d₁ b b₁ cs cs₁ left left₁ end end₁ 
     let ledgers : after l cs ≡ after l cs₁ =
     after-history l cs ∙ ap (λ (h : List Event). afterHistory l h) same ∙ sym (after-history l cs₁) in
     record {
-      handed = handed-history l cs ∙ ap (λ (h : List Event). handedInHistory l h) same ∙ sym (handed-history l cs₁);
+      handed =
+          handed-out names listed one
+          ∙ handed-history l cs
+          ∙ ap (λ (h : List Event). handedInHistory l h) same
+          ∙ sym (handed-history l cs₁)
+          ∙ sym (handed-out names listed two);
       counts =
           rw (same-names listed (one .watch-list)) at (one .counts)
           ∙ ap (λ (m : Ledger). asCounts (m .counts)) ledgers
           ∙ sym (rw (same-names listed (two .watch-list)) at (two .counts));
-      rows =
+      board =
           rw (same-names listed (one .watch-list)) at (one .board)
-          ∙ ap (λ (m : Ledger). map asEntry (m .entries)) ledgers
+          ∙ ap (λ (m : Ledger). boardShowing (map asEntry (m .entries))) ledgers
           ∙ sym (rw (same-names listed (two .watch-list)) at (two .board));
     }
 
@@ -194,14 +204,14 @@ rows-followed gs (n ∷ names) = ap (λ (l : List shown.Entry). rowAfter gs n �
 -- ticks since, as 01 says.
 pub rows-show-last-update : (fields : List ℕ) (names : List (List ℕ)) → watchNames fields ≡ some names → (d : Display) → Begins fields d
     → (cs : List Call) (left : List Left) (end : Display) → Chain d cs left end
-    → entries (end .board) ≡ map (rowAfter (given (start names) cs)) names
+    → end .board ≡ boardShowing (map (rowAfter (given (start names) cs)) names)
 rows-show-last-update fields names listed d begins cs left end chain =
     let all = every-list fields d begins cs left end chain in
     let good = list-good fields names listed in
     let once = ap distinct (fresh-named names) ∙ good .once in
     rw (same-names listed (all .watch-list)) at (all .board)
-    ∙ ap (map asEntry) (after-followed (start names) cs once)
-    ∙ rows-followed (given (start names) cs) names
+    ∙ ap (λ (es : List Entry). boardShowing (map asEntry es)) (after-followed (start names) cs once)
+    ∙ ap boardShowing (rows-followed (given (start names) cs) names)
 
 -- A row is current exactly when that update is fewer than 30 ticks old, and then shows its value and those ticks as age.
 pub current-when : (value : ℤ) (ticks : ℕ) → ticks < 30 → rowOf (some (record { value = value; ticks = ticks })) ≡ current value ticks

@@ -1,9 +1,9 @@
 -- The board's rows show what the ledger holds of each name, after an update and after a tick as before; the names never change.
-use mathlib.Core.Path.{_≡_, refl, sym, ap, ap₂, _∙_}
+use mathlib.Core.Path.{_≡_, refl, ap, ap₂}
 use mathlib.Core.Bool.{Bool, true, false, cond}
 use mathlib.Core.List.{List, [], _∷_, _++_, map}
 use mathlib.Core.Option.{Option, some, none}
-use Prim.Native.Nat.{ℕ, zero, suc, _+_, _≤_, _<_, _-_}
+use Prim.Native.Nat.{ℕ, zero, suc, _≤_, _<_}
 use native.Mathlib.Numerals.{add-one}
 use native.Mathlib.Omega.{arith}
 use lib.Dec.{ltb}
@@ -12,14 +12,11 @@ use lib.ListN.{length, replicate}
 use borrow.Author.Tests.{le-ltb, ltb-false}
 use Rattle.slices.specs.Same.{sameBytes}
 use Rattle.rows.specs.Entries as shown
-use Rattle.rows.specs.Entries.{tickEntry, updateEntries}
-use Rattle.rows.specs.Names.{placeFrom, placeOf}
-use Rattle.rows.specs.Rows.{rowCount, rowName, rowNames, tickState, tickRow, tickBoard, updateRow, updateBoard, freshRow, changeAt, boardOf}
-use Rattle.rows.specs.declared.Board.{Board}
-use Rattle.rows.specs.declared.Row as row
+use Rattle.rows.specs.Entries.{entryName, tickEntry, updateEntries}
+use Rattle.rows.specs.Names.{placeFrom}
+use Rattle.rows.specs.Rows.{tickState}
 use Rattle.rows.specs.declared.State.the-variants.{Current, Silent}
 use Rattle.slices.proofs.SameLaws.{same-lengths}
-use Rattle.board.proofs.WatchLaws.{Fits, fresh-name}
 use Rattle.ledger.specs.Ledger.{Update, Entry, nameOf, updated, older, olderEntry, current, silent, rowOf}
 use Rattle.ledger.specs.Shown.{asState, asEntry}
 
@@ -69,35 +66,10 @@ pub names-older : (es : List Entry) → map nameOf (map olderEntry es) ≡ map n
 names-older [] = refl
 names-older (e ∷ es) = ap (λ (l : List (List ℕ)). e .name ∷ l) (names-older es)
 
--- and so do those of the board's rows
-rows-ticked : (rows : List row.Row) → map rowName (map tickRow rows) ≡ map rowName rows
-rows-ticked [] = refl
-rows-ticked (r ∷ rows) = ap (λ (l : List (List ℕ)). rowName r ∷ l) (rows-ticked rows)
-
-pub row-names-tick : (board : Board) → rowNames (tickBoard board) ≡ rowNames board
-row-names-tick board = rows-ticked (board .rows)
-
-rows-changed : (value : ℤ) (place : ℕ) (rows : List row.Row) → map rowName (changeAt (updateRow value) place rows) ≡ map rowName rows
-unfolding changeAt
-rows-changed value zero [] = refl
-rows-changed value (suc place) [] = refl
-rows-changed value zero (r ∷ rows) = refl
-rows-changed value (suc place) (r ∷ rows) = ap (λ (l : List (List ℕ)). rowName r ∷ l) (rows-changed value place rows)
-
-pub row-names-update : (place : ℕ) (value : ℤ) (board : Board) → rowNames (updateBoard place value board) ≡ rowNames board
-row-names-update place value board = rows-changed value place (board .rows)
-
--- the rows of a fresh board: the names of the list, then unused ones
-pub row-names-fresh : (names : List (List ℕ)) → Fits names → rowNames (boardOf names) ≡ names ++ replicate (rowCount - length names) []
-row-names-fresh names fit = go names (rowCount - length names) fit
-  where
-    unused : (k : ℕ) → map rowName (map freshRow (replicate k [])) ≡ replicate k []
-    unused zero = refl
-    unused (suc k) = ap (λ (l : List (List ℕ)). [] ∷ l) (unused k)
-
-    go : (names : List (List ℕ)) (k : ℕ) → Fits names → map rowName (map freshRow (names ++ replicate k [])) ≡ names ++ replicate k []
-    go [] k fit = unused k
-    go (n ∷ names) k fit = ap₂ (λ (x : List ℕ) (l : List (List ℕ)). x ∷ l) (fresh-name n (fit .0)) (go names k (fit .1))
+-- the names that are shown are the ledger's
+pub names-shown : (es : List Entry) → map entryName (map asEntry es) ≡ map nameOf es
+names-shown [] = refl
+names-shown (e ∷ es) = ap (λ (l : List (List ℕ)). e .name ∷ l) (names-shown es)
 
 -- a name that is not empty stands among the list's names, where it stands at all
 pub place-listed : (name : List ℕ) (names : List (List ℕ)) (k a : ℕ) → 0 < length name

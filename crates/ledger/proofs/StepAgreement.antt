@@ -12,9 +12,10 @@ use Rattle.slices.specs.Put.{putAt}
 use Rattle.frame.specs.Stuffing.{contentMax}
 use Rattle.frame.specs.Content.{payloadMax}
 use Rattle.frame.specs.Reading.{readRun}
-use Rattle.rows.specs.Entries.{tickEntry}
+use Rattle.rows.specs.Entries.{boardShowing}
+use Rattle.rows.specs.Rows.{tickBoard}
 use Rattle.rows.specs.declared.Board.{Board}
-use Rattle.rows.proofs.EntryLaws.{entries-tick}
+use Rattle.rows.proofs.EntryLaws.{tick-showing}
 use Rattle.board.specs.Reading as reading
 use Rattle.board.specs.Reading.{Verdict}
 use Rattle.board.proofs.WatchLaws.{Fits}
@@ -39,9 +40,9 @@ use Rattle.ledger.specs.Frames.{Frame, Taken, taken, frameOf}
 use Rattle.ledger.specs.Calls as calls
 use Rattle.ledger.specs.Answers.{piece, tick}
 use Rattle.ledger.specs.Calls.{Effect, afterReading, closed, effectOf, withRun, pieceStep, shortStep, step}
-use Rattle.ledger.specs.Shown.{asCounts, asLast, asAnswer, Left, took, ticked, asLeft}
+use Rattle.ledger.specs.Shown.{asCounts, asLast, asEntry, asAnswer, Left, took, ticked, asLeft}
 use Rattle.ledger.proofs.RunAgreement.{Standing, Reached, Agreement, agree}
-use Rattle.ledger.proofs.RowAgreement.{entries-older, names-older, row-names-tick}
+use Rattle.ledger.proofs.RowAgreement.{entries-older, names-older}
 use Rattle.ledger.proofs.FrameAgreement.{linkOutcome, read-by-type, Shows, Effects, frame-agrees, nothing-agrees}
 
 -- display and ledger agree
@@ -180,9 +181,8 @@ tick-agrees names l d a =
             counts-are = a .counts-are;
             shows =
                 record {
-                  rows-show = entries-tick (d .board) ∙ ap (map tickEntry) (a .shows .rows-show) ∙ entries-older (l .entries);
+                  showing = ap tickBoard (a .shows .showing) ∙ tick-showing (map asEntry (l .entries)) ∙ ap boardShowing (entries-older (l .entries));
                   named = names-older (l .entries) ∙ a .shows .named;
-                  in-rows = row-names-tick (d .board) ∙ a .shows .in-rows;
                 };
           };
     }

@@ -1,68 +1,63 @@
--- What a tick and an update do to the entries of a board, and that neither changes a name. Each goes row by row.
-use mathlib.Core.Path.{_≡_, refl, sym, ap, _∙_}
+-- A fresh board, a tick and an update leave a board that shows the entries which they leave: each goes row by row, and no unused
+-- row is current or has a name that is looked for.
+use mathlib.Core.Path.{_≡_, refl, ap, ap₂, _∙_}
 use mathlib.Core.Bool.{Bool, true, false, cond}
-use mathlib.Core.List.{List, [], _∷_, map}
+use mathlib.Core.List.{List, [], _∷_, _++_, map}
 use mathlib.Core.Option.{some}
-use Prim.Native.Nat.{ℕ, zero, suc, _+_, _≤_, _<_}
+use Prim.Native.Nat.{ℕ, zero, suc, _+_, _-_, _≤_, _<_}
 use native.Mathlib.Omega.{arith}
 use lib.IntN.{ℤ}
-use lib.ListN.{length}
+use lib.ListN.{length, replicate, length-map}
 use Rattle.slices.specs.Same.{sameBytes}
-use Rattle.rows.specs.Names.{placeFrom, placeOf, used}
-use Rattle.rows.specs.Rows.{rowName, rowNames, watched, tickState, tickRow, tickBoard, changeAt, updateRow, updateBoard}
-use Rattle.rows.specs.Entries.{Entry, shown, rowEntries, entries, tickEntry, updateEntries}
+use Rattle.rows.specs.Names.{placeFrom, placeOf}
+use Rattle.rows.specs.Rows.{rowCount, rowName, rowNames, tickRow, tickBoard, freshRow, boardOf, changeAt, updateRow, updateBoard}
+use Rattle.rows.specs.Entries.{Entry, entryName, rowShowing, boardShowing, freshEntry, tickEntry, updateEntries}
 use Rattle.rows.specs.declared.Board.{Board}
 use Rattle.rows.specs.declared.Row.{Row}
-use Rattle.rows.specs.declared.State.{State}
 use Rattle.rows.specs.declared.State.the-variants.{Current}
 
--- the names of the entries are the watched ones
-shown-name : (name : List ℕ) (state : State) (es : List Entry) (names : List (List ℕ)) → map (λ (e : Entry). e .name) es ≡ used names → map (λ (e : Entry). e .name) (shown name state es) ≡ used (name ∷ names)
-unfolding shown used
-shown-name [] state es names h = h
-shown-name (byte ∷ bytes) state es names h = ap (λ r. (byte ∷ bytes) ∷ r) h
+-- the rows that show some entries, with k unused ones behind them
+abbrev rowsShowing : List Entry → ℕ → List Row
+rowsShowing es k = map rowShowing es ++ replicate k (freshRow [])
 
-row-names : (rows : List Row) → map (λ (e : Entry). e .name) (rowEntries rows) ≡ used (map rowName rows)
-unfolding rowEntries used
-row-names [] = refl
-row-names (row ∷ rows) = shown-name (rowName row) (row .state) (rowEntries rows) (map rowName rows) (row-names rows)
+abbrev withRows : List Row → Board
+withRows rows = record { rows = rows }
 
-pub entry-names : (board : Board) → map (λ (e : Entry). e .name) (entries board) ≡ watched board
-entry-names board = row-names (board .rows)
+-- names that were accepted fit, and then the rows have them
+abbrev pub Named : List Entry → Type 0
+Named es = map rowName (map rowShowing es) ≡ map entryName es
 
--- a tick is a tick of each entry
-shown-tick : (name : List ℕ) (state : State) (es : List Entry) → map tickEntry (shown name state es) ≡ shown name (tickState state) (map tickEntry es)
-unfolding shown
-shown-tick [] state es = refl
-shown-tick (byte ∷ bytes) state es = refl
+first-named : (e : Entry) (es : List Entry) → Named (e ∷ es) → rowName (rowShowing e) ≡ e .name
+first-named e es h = cc
 
-row-ticks : (rows : List Row) → rowEntries (map tickRow rows) ≡ map tickEntry (rowEntries rows)
-unfolding rowEntries
-row-ticks [] = refl
-row-ticks (row ∷ rows) =
-    ap (λ (es : List Entry). shown (rowName row) (tickState (row .state)) es) (row-ticks rows)
-    ∙ sym (shown-tick (rowName row) (row .state) (rowEntries rows))
+others-named : (e : Entry) (es : List Entry) → Named (e ∷ es) → Named es
+others-named e es h = cc
 
-pub entries-tick : (board : Board) → entries (tickBoard board) ≡ map tickEntry (entries board)
-entries-tick board = row-ticks (board .rows)
+row-names : (es : List Entry) (k : ℕ) → Named es → map rowName (rowsShowing es k) ≡ map entryName es ++ replicate k []
+row-names [] zero h = refl
+row-names [] (suc k) h = ap (λ (l : List (List ℕ)). [] ∷ l) (row-names [] k h)
+row-names (e ∷ es) k h = ap₂ (λ (n : List ℕ) (l : List (List ℕ)). n ∷ l) (first-named e es h) (row-names es k (others-named e es h))
 
--- and changes no name
-tick-names : (rows : List Row) → map rowName (map tickRow rows) ≡ map rowName rows
-tick-names [] = refl
-tick-names (row ∷ rows) = ap (λ r. rowName row ∷ r) (tick-names rows)
+pub showing-names : (es : List Entry) → Named es → rowNames (boardShowing es) ≡ map entryName es ++ replicate (rowCount - length es) []
+showing-names es h = row-names es (rowCount - length es) h
 
-pub watched-tick : (board : Board) → watched (tickBoard board) ≡ watched board
-watched-tick board = ap used (tick-names (board .rows))
+-- a fresh board
+fresh-rows : (names : List (List ℕ)) (k : ℕ) → map freshRow (names ++ replicate k []) ≡ rowsShowing (map freshEntry names) k
+fresh-rows [] zero = refl
+fresh-rows [] (suc k) = ap (λ (l : List Row). freshRow [] ∷ l) (fresh-rows [] k)
+fresh-rows (name ∷ names) k = ap (λ (l : List Row). freshRow name ∷ l) (fresh-rows names k)
 
--- neither does an update
-update-names : (value : ℤ) (place : ℕ) (rows : List Row) → map rowName (changeAt (updateRow value) place rows) ≡ map rowName rows
-unfolding changeAt
-update-names value place [] = refl
-update-names value zero (row ∷ rows) = refl
-update-names value (suc place) (row ∷ rows) = ap (λ r. rowName row ∷ r) (update-names value place rows)
+pub fresh-showing : (names : List (List ℕ)) → boardOf names ≡ boardShowing (map freshEntry names)
+fresh-showing names = rw (length-map names freshEntry) (ap withRows (fresh-rows names (rowCount - length names)))
 
-pub watched-update : (place : ℕ) (value : ℤ) (board : Board) → watched (updateBoard place value board) ≡ watched board
-watched-update place value board = ap used (update-names value place (board .rows))
+-- a tick
+tick-rows : (es : List Entry) (k : ℕ) → map tickRow (rowsShowing es k) ≡ rowsShowing (map tickEntry es) k
+tick-rows [] zero = refl
+tick-rows [] (suc k) = ap (λ (l : List Row). freshRow [] ∷ l) (tick-rows [] k)
+tick-rows (e ∷ es) k = ap (λ (l : List Row). rowShowing (tickEntry e) ∷ l) (tick-rows es k)
+
+pub tick-showing : (es : List Entry) → tickBoard (boardShowing es) ≡ boardShowing (map tickEntry es)
+tick-showing es = rw (length-map es tickEntry) (ap withRows (tick-rows es (rowCount - length es)))
 
 -- names are counted upwards
 place-from : (a place : ℕ) (name : List ℕ) (names : List (List ℕ)) → placeFrom a name names ≡ some place → a ≤ place
@@ -76,34 +71,50 @@ place-from a place name (other ∷ names) e = cases (sameBytes other name) (λ l
 
 -- an update of the row where the name stands is one of its entry
 module _ (byte : ℕ) (bytes : List ℕ) (value : ℤ) where
-  shown-other : (other : List ℕ) (state : State) (es : List Entry) → sameBytes other (byte ∷ bytes) ≡ false → updateEntries (byte ∷ bytes) value (shown other state es) ≡ shown other state (updateEntries (byte ∷ bytes) value es)
-  unfolding shown updateEntries
-  shown-other [] state es e = refl
-  shown-other (first ∷ rest) state es e = rw e
+  abbrev name : List ℕ
+  name = byte ∷ bytes
 
-  shown-same : (other : List ℕ) (state : State) (es : List Entry) → sameBytes other (byte ∷ bytes) ≡ true → updateEntries (byte ∷ bytes) value (shown other state es) ≡ shown other (Current value 0) es
-  unfolding shown updateEntries sameBytes
-  shown-same [] state es e = let z : _≡_ {A = ℕ} 0 1 = cc in absurd (omega arith)
-  shown-same (first ∷ rest) state es e = rw e
+  -- no unused row has the name
+  not-unused : (k a place : ℕ) → placeFrom a name (map rowName (rowsShowing [] k)) ≡ some place → ⊥
+  unfolding placeFrom sameBytes
+  not-unused zero a place e = let z : _≡_ {A = ℕ} 0 1 = cc in absurd (omega arith)
+  not-unused (suc k) a place e = not-unused k (suc a) place e
 
-  row-update : (rows : List Row) (a place : ℕ) → placeFrom a (byte ∷ bytes) (map rowName rows) ≡ some (a + place) → rowEntries (changeAt (updateRow value) place rows) ≡ updateEntries (byte ∷ bytes) value (rowEntries rows)
-  unfolding placeFrom rowEntries changeAt
-  row-update [] a place e = let z : _≡_ {A = ℕ} 0 1 = cc in absurd (omega arith)
-  row-update (row ∷ rows) a place e = cases (sameBytes (rowName row) (byte ∷ bytes)) refl place (λ less later. row-update rows (suc a) less later) e
+  abbrev Updates : List Entry → ℕ → ℕ → Type 0
+  Updates es k place = changeAt (updateRow value) place (rowsShowing es k) ≡ rowsShowing (updateEntries name value es) k
+
+  update-rows : (es : List Entry) (k a place : ℕ) → Named es → placeFrom a name (map rowName (rowsShowing es k)) ≡ some (a + place) → Updates es k place
+  unfolding placeFrom updateEntries changeAt
+  update-rows [] k a place h e = absurd (not-unused k a (a + place) e)
+  update-rows (entry ∷ es) k a place h e =
+      cases (sameBytes (entry .name) name) refl place (λ less later. update-rows es k (suc a) less (others-named entry es h) later) (rw (first-named entry es h) at e)
     where
-      cases : (t : Bool) → sameBytes (rowName row) (byte ∷ bytes) ≡ t → (place : ℕ) → ((less : ℕ) → placeFrom (suc a) (byte ∷ bytes) (map rowName rows) ≡ some (suc a + less) → rowEntries (changeAt (updateRow value) less rows) ≡ updateEntries (byte ∷ bytes) value (rowEntries rows)) → cond t (some a) (placeFrom (suc a) (byte ∷ bytes) (map rowName rows)) ≡ some (a + place) → rowEntries (changeAt (updateRow value) place (row ∷ rows)) ≡ updateEntries (byte ∷ bytes) value (shown (rowName row) (row .state) (rowEntries rows))
-      cases true h zero below e = sym (shown-same (rowName row) (row .state) (rowEntries rows) h)
-      cases true h (suc place) below e = let z : a ≡ a + suc place = cc in absurd (omega arith)
-      cases false h zero below e =
-          let past : suc a ≤ a + 0 = place-from (suc a) (a + 0) (byte ∷ bytes) (map rowName rows) e in
+      cases : (t : Bool) → sameBytes (entry .name) name ≡ t → (place : ℕ)
+          → ((less : ℕ) → placeFrom (suc a) name (map rowName (rowsShowing es k)) ≡ some (suc a + less) → Updates es k less)
+          → cond t (some a) (placeFrom (suc a) name (map rowName (rowsShowing es k))) ≡ some (a + place)
+          → Updates (entry ∷ es) k place
+      cases true s zero below e = rw s
+      cases true s (suc place) below e = let z : a ≡ a + suc place = cc in absurd (omega arith)
+      cases false s zero below e =
+          let past : suc a ≤ a + 0 = place-from (suc a) (a + 0) name (map rowName (rowsShowing es k)) e in
           absurd (omega arith)
-      cases false h (suc place) below e =
+      cases false s (suc place) below e =
           let on : a + suc place ≡ suc a + place = omega arith in
-          ap (λ (es : List Entry). shown (rowName row) (row .state) es) (below place (rw on at e))
-          ∙ sym (shown-other (rowName row) (row .state) (rowEntries rows) h)
+          rw s (ap (λ (l : List Row). rowShowing entry ∷ l) (below place (rw on at e)))
 
-pub entries-update : (board : Board) (name : List ℕ) (place : ℕ) (value : ℤ) → 0 < length name → placeOf name (rowNames board) ≡ some place → entries (updateBoard place value board) ≡ updateEntries name value (entries board)
-entries-update board [] place value h e = absurd (omega arith)
-entries-update board (byte ∷ bytes) place value h e =
+  update-length : (es : List Entry) → length (updateEntries name value es) ≡ length es
+  unfolding updateEntries
+  update-length [] = refl
+  update-length (entry ∷ es) = cases (sameBytes (entry .name) name) (update-length es)
+    where
+      cases : (t : Bool) → length (updateEntries name value es) ≡ length es
+          → length (cond t (record { name = entry .name; state = Current value 0 } ∷ es) (entry ∷ updateEntries name value es)) ≡ suc (length es)
+      cases true rest = refl
+      cases false rest = ap suc rest
+
+pub update-showing : (es : List Entry) (name : List ℕ) (place : ℕ) (value : ℤ) → Named es → 0 < length name
+    → placeOf name (rowNames (boardShowing es)) ≡ some place → updateBoard place value (boardShowing es) ≡ boardShowing (updateEntries name value es)
+update-showing es [] place value h some-bytes e = absurd (omega arith)
+update-showing es (byte ∷ bytes) place value h some-bytes e =
     let from : place ≡ 0 + place = omega arith in
-    row-update byte bytes value (board .rows) 0 place (rw from at e)
+    rw (update-length byte bytes value es) (ap withRows (update-rows byte bytes value es (rowCount - length es) 0 place h (rw from at e)))

@@ -1,11 +1,12 @@
 -- What a board shows: the name and the state of each row in use, in the rows' order. All that is said of boards above the
--- rows is said of this list, so that a further field of a row changes nothing there.
-use Prim.Native.Nat.{ℕ}
+-- rows is said of this list and of the one board that shows it, so that a further field of a row changes nothing there.
+use Prim.Native.Nat.{ℕ, _-_}
 use mathlib.Core.Bool.{cond}
-use mathlib.Core.List.{List, [], _∷_}
+use mathlib.Core.List.{List, [], _∷_, _++_, map}
 use lib.IntN.{ℤ}
+use lib.ListN.{length, replicate}
 use Rattle.slices.specs.Same.{sameBytes}
-use Rattle.rows.specs.Rows.{rowName, tickState}
+use Rattle.rows.specs.Rows.{rowCount, tickState, withState, freshRow}
 use Rattle.rows.specs.declared.Board.{Board}
 use Rattle.rows.specs.declared.Row.{Row}
 use Rattle.rows.specs.declared.State.{State}
@@ -15,17 +16,16 @@ pub record Entry : Type 0 where
   pub name : List ℕ
   pub state : State
 
--- an unused row, whose name is empty, is not shown
-unfoldable pub shown : List ℕ → State → List Entry → List Entry
-shown [] state entries = entries
-shown (byte ∷ bytes) state entries = record { name = byte ∷ bytes; state = state } ∷ entries
+abbrev pub entryName : Entry → List ℕ
+entryName entry = entry .name
 
-unfoldable pub rowEntries : List Row → List Entry
-rowEntries [] = []
-rowEntries (row ∷ rows) = shown (rowName row) (row .state) (rowEntries rows)
+-- the row that shows an entry
+abbrev pub rowShowing : Entry → Row
+rowShowing entry = withState (entry .state) (freshRow (entry .name))
 
-abbrev pub entries : Board → List Entry
-entries board = rowEntries (board .rows)
+-- 01, The board: sixteen rows, the list's names first and in its order; the rows behind them are unused
+abbrev pub boardShowing : List Entry → Board
+boardShowing entries = record { rows = map rowShowing entries ++ replicate (rowCount - length entries) (freshRow []) }
 
 -- 01, The board: a row is never until its first update
 abbrev pub freshEntry : List ℕ → Entry

@@ -54,6 +54,13 @@ pub fn tick(board: Board) -> Board
     next
 }
 
+// The board that is lent, after a tick.
+pub fn tick_in_place(board: &mut Board)
+    ensures { λ _. ⌜ now (board .exit) ≡ tickBoard (now (board .entry)) ⌝ }
+{
+    *board = tick(*board);
+}
+
 fn tick_row(row: Row) -> Row
     ensures { λ r. ⌜ r ≡ tickRow row ⌝ }
 {

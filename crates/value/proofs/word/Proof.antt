@@ -35,7 +35,8 @@ add-sum : tie.Need-add-sum Inv-loop μ-loop
 add-sum c =
     let loop = c .before .before .loop in
     let byte = c .shared-slice-known .given (loop .i) in
-    record { fits = word-fits (loop .sum) (getD (c .before .before .before .args .bytes .now) (loop .i) 0) (loop .i) (loop .inv .1) (omega (arith, byte)) (omega arith) }
+    let h = word-fits (loop .sum) (getD (c .before .before .before .args .bytes .now) (loop .i) 0) (loop .i) (loop .inv .1) (omega (arith, byte)) (omega arith) in
+    record { fits = omega (arith, h) }
 
 add-i : tie.Need-add-i Inv-loop μ-loop
 add-i c = omega arith
@@ -48,7 +49,8 @@ loop-again c =
     let loop = c .before .before .loop in
     let bytes = c .before .before .before .args .bytes .now in
     let byte = c .shared-slice-known .given (loop .i) in
-    (omega arith, word-grows (loop .sum) (getD bytes (loop .i) 0) (loop .i) (loop .inv .1) (omega (arith, byte)), word-step bytes (loop .sum) (loop .i) (omega arith) ∙ loop .inv .2)
+    let grows = word-grows (loop .sum) (getD bytes (loop .i) 0) (loop .i) (loop .inv .1) (omega (arith, byte)) in
+    (omega arith, omega (arith, grows), word-step bytes (loop .sum) (loop .i) (omega arith) ∙ loop .inv .2)
 
 returns : tie.Need-returns Inv-loop μ-loop
 returns c =

@@ -1,0 +1,91 @@
+-- What a call handed out stands at the start of the buffers, as long as the answer says: an acknowledgement has at most the nine bytes
+-- that a reply buffer has, and a payload at most the 383 of a packet buffer.
+use mathlib.Core.Path.{_≡_, refl, sym, ap, ap₂, _∙_}
+use mathlib.Core.Bool.{Bool, true, false, cond, _||_}
+use mathlib.Core.List.{List, [], _∷_, _++_, map}
+use mathlib.Core.Option.{Option, some, none}
+use Prim.Native.Nat.{ℕ, _≤_}
+use native.Mathlib.Omega.{arith}
+use lib.Dec.{eqb, ltb}
+use lib.ListN.{length, take}
+use borrow.Author.Tests.{ltb-false}
+use Rattle.slices.specs.Put.{putAt}
+use Rattle.slices.proofs.PutLaws.{put-first}
+use Rattle.frame.specs.Content as content
+use Rattle.frame.specs.Reading.{readRun}
+use Rattle.frame.proofs.FrameTheorems.{run-bounded}
+use Rattle.link.specs.Closing.{acknowledgement}
+use Rattle.link.proofs.ClosingLaws.{acknowledgement-fits}
+use Rattle.ledger.specs.Ledger.{Ledger}
+use Rattle.ledger.specs.Frames as frames
+use Rattle.ledger.specs.Frames.{Frame, Taken, taken, byType, frameOf}
+use Rattle.ledger.specs.Answers as answers
+use Rattle.ledger.specs.Answers.{Call, Given}
+use Rattle.ledger.specs.Calls as calls
+use Rattle.ledger.specs.Calls.{Effect, answerTo, repeated, closed, effectOf, withRun, pieceStep, shortStep, step, given}
+use Rattle.ledger.specs.History.{Handed, handedBy, handedIn, handedOut}
+use Rattle.ledger.specs.Shown.{asAnswer, Left, asLeft, handedAs, handedLeft, allHanded}
+
+-- a good data frame has at most 383 bytes of payload
+payload-bounded : (run : List ℕ) (sequence : ℕ) (payload : List ℕ) → frameOf run ≡ frames.good sequence payload → length payload ≤ 383
+unfolding frameOf
+payload-bounded run sequence payload e = by-read (readRun run) refl e
+  where
+    by-read : (found : content.Read) → readRun run ≡ found → byType found ≡ frames.good sequence payload → length payload ≤ 383
+    by-read (content.refused n) f e = let z : _≡_ {A = ℕ} 0 1 = cc in absurd (omega arith)
+    by-read (content.frame kind other bytes) f e = by-type (eqb kind 0x01) (eqb kind 0x02) (eqb (length bytes) 0) e
+      where
+        by-type : (t u v : Bool)
+            → cond t (frames.good other bytes) (cond u (cond v (frames.acknowledgement other) (frames.refused 6)) (frames.refused 5)) ≡ frames.good sequence payload
+            → length payload ≤ 383
+        by-type true u v e = let same : bytes ≡ payload = cc in rw (← same) (run-bounded run kind other bytes f)
+        by-type false true true e = let z : _≡_ {A = ℕ} 0 1 = cc in absurd (omega arith)
+        by-type false true false e = let z : _≡_ {A = ℕ} 0 1 = cc in absurd (omega arith)
+        by-type false false v e = let z : _≡_ {A = ℕ} 0 1 = cc in absurd (omega arith)
+
+-- a frame that was closed, with buffers that have room
+module _ (names : List (List ℕ)) (l : Ledger) (reply packet : List ℕ) (reply-room : 9 ≤ length reply) (packet-room : 383 ≤ length packet) where
+  abbrev Handed-out : Effect → Type 0
+  Handed-out e = handedAs (asAnswer names (e .answer)) (putAt reply 0 (e .reply)) (putAt packet 0 (e .packet)) ≡ handedBy (e .answer)
+
+  reply-stands : (sequence : ℕ) → take (length (answerTo sequence)) (putAt reply 0 (answerTo sequence)) ≡ answerTo sequence
+  unfolding acknowledgement
+  reply-stands sequence = let fits = acknowledgement-fits sequence in put-first reply (answerTo sequence) (omega (arith, fits))
+
+  good-handed : (sequence : ℕ) (payload : List ℕ) → length payload ≤ 383 → Handed-out (closed l (frames.good sequence payload))
+  good-handed sequence payload few = by-last (repeated (l .sequence) sequence)
+    where
+      by-last : (t : Bool) → Handed-out (cond t (calls.repeatedFrame l sequence) (calls.newFrame l sequence payload))
+      by-last true = ap (λ (r : List ℕ). record { reply = r; packet = none } ∷ []) (reply-stands sequence)
+      by-last false =
+          ap₂ (λ (r p : List ℕ). record { reply = r; packet = some p } ∷ []) (reply-stands sequence)
+          (put-first packet payload (omega arith))
+
+  frame-handed : (f : Frame) → ((sequence : ℕ) (payload : List ℕ) → f ≡ frames.good sequence payload → length payload ≤ 383) → Handed-out (closed l f)
+  frame-handed (frames.refused n) few = refl
+  frame-handed (frames.acknowledgement sequence) few = refl
+  frame-handed (frames.good sequence payload) few = good-handed sequence payload (few sequence payload refl)
+
+  effect-handed : (frame : Option (List ℕ)) → Handed-out (effectOf l frame)
+  effect-handed none = refl
+  effect-handed (some run) = frame-handed (frameOf run) (payload-bounded run)
+
+step-handed : (names : List (List ℕ)) (l : Ledger) (c : Call) → handedLeft (asLeft names (step l c .given)) ≡ handedIn (step l c .given)
+unfolding step
+step-handed names l (answers.piece bytes reply packet) = by-room (ltb (length reply) 9) (ltb (length packet) 383) refl refl
+  where
+    by-room : (t u : Bool) → ltb (length reply) 9 ≡ t → ltb (length packet) 383 ≡ u
+        → handedLeft (asLeft names (cond (t || u) (shortStep l reply packet) (pieceStep l (taken (l .run) bytes 0) reply packet) .given))
+        ≡ handedIn (cond (t || u) (shortStep l reply packet) (pieceStep l (taken (l .run) bytes 0) reply packet) .given)
+    by-room true u e f = refl
+    by-room false true e f = refl
+    by-room false false e f =
+        let t = taken (l .run) bytes 0 in
+        effect-handed names (withRun l (t .run)) reply packet (ltb-false (length reply) 9 e) (ltb-false (length packet) 383 f) (t .frame)
+step-handed names l answers.tick = refl
+
+-- all that a list of calls handed out is what the ledger hands out
+pub all-handed : (names : List (List ℕ)) (l : Ledger) (cs : List Call) → allHanded (map (asLeft names) (given l cs)) ≡ handedOut l cs
+unfolding allHanded given handedOut
+all-handed names l [] = refl
+all-handed names l (c ∷ cs) = ap₂ (λ (x y : List Handed). x ++ y) (step-handed names l c) (all-handed names (step l c .ledger) cs)

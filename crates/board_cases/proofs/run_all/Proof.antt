@@ -1,4 +1,5 @@
 -- `board_cases::run_all` goes through the lines of its text, and ends: each line takes some of it.
+use native.Mathlib.Omega.{arith}
 use borrow.Author.Needs.{needs}
 use Prim.Native.Nat.{_+_, _-_, _≤_}
 use lib.ListN.{length}
@@ -12,43 +13,43 @@ abbrev μ-loop : tie.MeasureT-loop
 μ-loop text at₀ at = length text + 1 - at
 
 loop-holds : tie.Need-loop-holds Inv-loop μ-loop
-loop-holds c = search needs
+loop-holds c = omega arith
 
 sub-length : tie.Need-sub-length Inv-loop μ-loop
-sub-length c = search needs
+sub-length c = omega arith
 
 part-length-start : tie.Need-part-length-start Inv-loop μ-loop
-part-length-start c = search needs
+part-length-start c = omega arith
 
 part-length-end : tie.Need-part-length-end Inv-loop μ-loop
-part-length-end c = search needs
+part-length-end c = omega arith
 
 length-requires : tie.Need-length-requires Inv-loop μ-loop
-length-requires c κs = search needs
+length-requires c κs = tt
 
 add-end : tie.Need-add-end Inv-loop μ-loop
-add-end c = search needs
+add-end c = omega arith
 
 sub-run : tie.Need-sub-run Inv-loop μ-loop
-sub-run c = search needs
+sub-run c = omega arith
 
 part-run-start : tie.Need-part-run-start Inv-loop μ-loop
-part-run-start c = search needs
+part-run-start c = omega arith
 
 part-run-end : tie.Need-part-run-end Inv-loop μ-loop
-part-run-end c = search needs
+part-run-end c = omega arith
 
 run-requires : tie.Need-run-requires Inv-loop μ-loop
-run-requires c κs = search needs
+run-requires c κs = tt
 
 add-at : tie.Need-add-at Inv-loop μ-loop
-add-at c = search needs
+add-at c = omega arith
 
 loop-less : tie.Need-loop-less Inv-loop μ-loop
-loop-less c = search needs
+loop-less c = omega arith
 
 loop-again : tie.Need-loop-again Inv-loop μ-loop
-loop-again c = search needs
+loop-again c = omega arith
 
 returns : tie.Need-returns Inv-loop μ-loop
 returns c = search needs

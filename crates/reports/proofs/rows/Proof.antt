@@ -1,4 +1,5 @@
 -- `reports::rows` goes through the rows of the board, and no further.
+use native.Mathlib.Omega.{arith}
 use borrow.Author.Needs.{needs}
 use Prim.Native.Nat.{_-_, _≤_}
 use Rattle.rows.specs.Rows.{rowCount}
@@ -12,28 +13,28 @@ abbrev μ-loop : tie.MeasureT-loop
 μ-loop board i₀ i = rowCount - i
 
 loop-holds : tie.Need-loop-holds Inv-loop μ-loop
-loop-holds c = search needs
+loop-holds c = omega arith
 
 mul-shown : tie.Need-mul-shown Inv-loop μ-loop
-mul-shown c = search needs
+mul-shown c = omega arith
 
 element-copy-out-shown : tie.Need-element-copy-out-shown Inv-loop μ-loop
-element-copy-out-shown c = search needs
+element-copy-out-shown c = omega arith
 
 row-requires : tie.Need-row-requires Inv-loop μ-loop
-row-requires c κs = search needs
+row-requires c κs = tt
 
 returns : tie.Need-returns Inv-loop μ-loop
 returns c = search needs
 
 add-i : tie.Need-add-i Inv-loop μ-loop
-add-i c = search needs
+add-i c = omega arith
 
 loop-less : tie.Need-loop-less Inv-loop μ-loop
-loop-less c = search needs
+loop-less c = omega arith
 
 loop-again : tie.Need-loop-again Inv-loop μ-loop
-loop-again c = search needs
+loop-again c = omega arith
 
 returns-2 : tie.Need-returns-2 Inv-loop μ-loop
 returns-2 c = search needs

@@ -1,4 +1,5 @@
 -- `transfer_cases::run_all` goes through the lines of its text, and ends: each line takes some of it.
+use native.Mathlib.Omega.{arith}
 use borrow.Author.Needs.{needs}
 use mathlib.Core.Path.{_≡_}
 use Prim.Native.Nat.{_+_, _-_, _≤_}
@@ -13,46 +14,46 @@ abbrev μ-loop : tie.MeasureT-loop
 μ-loop text file₀ state₀ at₀ file state at = length text + 1 - at
 
 first-requires : tie.Need-first-requires Inv-loop μ-loop
-first-requires c κs = search needs
+first-requires c κs = tt
 
 loop-holds : tie.Need-loop-holds Inv-loop μ-loop
-loop-holds c = search needs
+loop-holds c = omega arith
 
 sub-length : tie.Need-sub-length Inv-loop μ-loop
-sub-length c = search needs
+sub-length c = omega arith
 
 part-length-start : tie.Need-part-length-start Inv-loop μ-loop
-part-length-start c = search needs
+part-length-start c = omega arith
 
 part-length-end : tie.Need-part-length-end Inv-loop μ-loop
-part-length-end c = search needs
+part-length-end c = omega arith
 
 length-requires : tie.Need-length-requires Inv-loop μ-loop
-length-requires c κs = search needs
+length-requires c κs = tt
 
 add-end : tie.Need-add-end Inv-loop μ-loop
-add-end c = search needs
+add-end c = omega arith
 
 sub-run : tie.Need-sub-run Inv-loop μ-loop
-sub-run c = search needs
+sub-run c = omega arith
 
 part-run-start : tie.Need-part-run-start Inv-loop μ-loop
-part-run-start c = search needs
+part-run-start c = omega arith
 
 part-run-end : tie.Need-part-run-end Inv-loop μ-loop
-part-run-end c = search needs
+part-run-end c = omega arith
 
 run-requires : tie.Need-run-requires Inv-loop μ-loop
-run-requires c κs = search needs
+run-requires c κs = tt
 
 add-at : tie.Need-add-at Inv-loop μ-loop
-add-at c = search needs
+add-at c = omega arith
 
 loop-less : tie.Need-loop-less Inv-loop μ-loop
-loop-less c = search needs
+loop-less c = omega arith
 
 loop-again : tie.Need-loop-again Inv-loop μ-loop
-loop-again c = search needs
+loop-again c = omega arith
 
 same-length : tie.Need-same-length Inv-loop μ-loop
 same-length c = search needs

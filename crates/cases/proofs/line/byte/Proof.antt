@@ -1,5 +1,5 @@
 -- `cases::line::byte` meets its contract: its test is that of the definition.
-use borrow.Author.Needs.{needs}
+use native.Mathlib.Omega.{arith}
 use borrow.Author.Tests.{eq-eqb, ne-eqb}
 use Rattle.cases.proofs.line.byte.Statement.{statement}
 use Rattle.cases.proofs.line.byte.Tie as tie
@@ -8,16 +8,16 @@ returns : tie.Need-returns
 returns c = rw (eq-eqb (c .before .args .first) 39 (c .if1 .taken))
 
 digit-requires : tie.Need-digit-requires
-digit-requires c κs = search needs
+digit-requires c κs = tt
 
 mul-result : tie.Need-mul-result
-mul-result c = search needs
+mul-result c = omega arith
 
 digit-requires-2 : tie.Need-digit-requires-2
-digit-requires-2 c κs = search needs
+digit-requires-2 c κs = tt
 
 add-result : tie.Need-add-result
-add-result c = search needs
+add-result c = omega arith
 
 returns-2 : tie.Need-returns-2
 returns-2 c =

@@ -1,5 +1,5 @@
 -- `cases::line::key` meets its contract: a line is empty or has a first byte.
-use borrow.Author.Needs.{needs}
+use native.Mathlib.Omega.{arith}
 use Rattle.cases.proofs.LineLaws.{no-key, first-key}
 use Rattle.cases.proofs.line.key.Statement.{statement}
 use Rattle.cases.proofs.line.key.Tie as tie
@@ -8,7 +8,7 @@ returns : tie.Need-returns
 returns c = no-key (c .before .args .line .now) (c .if1 .taken)
 
 shared-slice-read-result : tie.Need-shared-slice-read-result
-shared-slice-read-result c = search needs
+shared-slice-read-result c = omega arith
 
 returns-2 : tie.Need-returns-2
 returns-2 c = first-key (c .before .before .args .line .now)

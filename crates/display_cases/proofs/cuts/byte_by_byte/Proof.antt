@@ -1,4 +1,5 @@
 -- `display_cases::cuts::byte_by_byte` passes within its stream.
+use native.Mathlib.Omega.{arith}
 use Prim.Native.Nat.{_-_, _≤_}
 use borrow.Author.Needs.{needs}
 use lib.ListN.{length}
@@ -12,31 +13,31 @@ abbrev μ-loop : tie.MeasureT-loop
 μ-loop stream passed₀ i₀ passed i = length stream - i
 
 start-requires : tie.Need-start-requires Inv-loop μ-loop
-start-requires c κs = search needs
+start-requires c κs = tt
 
 loop-holds : tie.Need-loop-holds Inv-loop μ-loop
-loop-holds c = search needs
+loop-holds c = omega arith
 
 add-end : tie.Need-add-end Inv-loop μ-loop
-add-end c = search needs
+add-end c = omega arith
 
 sub-pass : tie.Need-sub-pass Inv-loop μ-loop
-sub-pass c = search needs
+sub-pass c = omega arith
 
 part-pass-start : tie.Need-part-pass-start Inv-loop μ-loop
-part-pass-start c = search needs
+part-pass-start c = omega arith
 
 part-pass-end : tie.Need-part-pass-end Inv-loop μ-loop
-part-pass-end c = search needs
+part-pass-end c = omega arith
 
 pass-requires : tie.Need-pass-requires Inv-loop μ-loop
-pass-requires c κs = search needs
+pass-requires c κs = tt
 
 loop-less : tie.Need-loop-less Inv-loop μ-loop
-loop-less c = search needs
+loop-less c = omega arith
 
 loop-again : tie.Need-loop-again Inv-loop μ-loop
-loop-again c = search needs
+loop-again c = omega arith
 
 returns : tie.Need-returns Inv-loop μ-loop
 returns c = search needs

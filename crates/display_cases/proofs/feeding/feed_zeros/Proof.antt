@@ -15,7 +15,7 @@ slice-aggregate-feed : tie.Need-slice-aggregate-feed
 slice-aggregate-feed c = simp length-take (omega arith)
 
 feed-requires : tie.Need-feed-requires
-feed-requires c κs = search needs
+feed-requires c κs = tt
 
 returns-2 : tie.Need-returns-2
 returns-2 c = search needs

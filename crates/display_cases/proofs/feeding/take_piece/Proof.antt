@@ -11,7 +11,7 @@ slice-aggregate-receive-2 : tie.Need-slice-aggregate-receive-2
 slice-aggregate-receive-2 c = search needs
 
 receive-requires : tie.Need-receive-requires
-receive-requires c κs = search needs
+receive-requires c κs = tt
 
 slice-aggregate-marked : tie.Need-slice-aggregate-marked
 slice-aggregate-marked c = search needs
@@ -20,7 +20,7 @@ slice-aggregate-marked-2 : tie.Need-slice-aggregate-marked-2
 slice-aggregate-marked-2 c = search needs
 
 marked-requires : tie.Need-marked-requires
-marked-requires c κs = search needs
+marked-requires c κs = tt
 
 slice-aggregate-show : tie.Need-slice-aggregate-show
 slice-aggregate-show c = search needs
@@ -29,7 +29,7 @@ slice-aggregate-show-2 : tie.Need-slice-aggregate-show-2
 slice-aggregate-show-2 c = search needs
 
 show-requires : tie.Need-show-requires
-show-requires c κs = search needs
+show-requires c κs = tt
 
 returns : tie.Need-returns
 returns c = takes _ _ _ _ _ _ _ (c .before .before .before .before .before .before .before .before .before .receive .ensures)

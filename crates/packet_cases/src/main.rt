@@ -1,7 +1,7 @@
 // Runs the proved packet functions on the cases of the file `stdin`, and prints what they answer. That
 // is compared with the file `stdout`, which has what document 01 says of them: Items and packets, and
-// Refusal numbers for what is refused and in which order. The packets that carry a heading of source
-// document 000 are its own, without their transport bytes.
+// Refusal numbers for what is refused and in which order. The packets under the heading of source
+// document 000 are that document's, without their transport bytes.
 //
 // The keys: `p` a packet, `n` a name, `l` a location; and the requests `g` property get of a name, `f`
 // file request of a location, `o` the same from an offset, `d` fetched, `s` stop.

@@ -3,16 +3,14 @@ use cases::print;
 use display::Answer;
 use display::Display;
 
-pub fn short_reply(display: Display, piece: &[u8]) -> Display {
-    let mut reply = [0u8; 8];
-    let mut packet = [0u8; 383];
-    call(display, piece, &mut reply, &mut packet)
-}
-
-pub fn short_packet(display: Display, piece: &[u8]) -> Display {
+// Calls with a reply buffer, then with a packet buffer that is a byte too short.
+pub fn short_buffers(display: Display, piece: &[u8]) -> Display {
     let mut reply = [0u8; 9];
-    let mut packet = [0u8; 382];
-    call(display, piece, &mut reply, &mut packet)
+    let mut packet = [0u8; 383];
+    let mut short_reply = [0u8; 8];
+    let mut short_packet = [0u8; 382];
+    let next = call(display, piece, &mut short_reply, &mut packet);
+    call(next, piece, &mut reply, &mut short_packet)
 }
 
 fn call(display: Display, piece: &[u8], reply: &mut [u8], packet: &mut [u8]) -> Display {

@@ -70,7 +70,9 @@ fn take_piece(before: Passed, piece: &[u8], shown: bool) -> Call
     let received = display::receive(display, piece, &mut reply, &mut packet);
     let answer = received.answer;
     let check = marked(before.check, answer, &reply, &packet);
-    show(shown, received.taken, answer, &reply, &packet);
+    if shown {
+        show_answer(received.taken, answer, &reply, &packet);
+    }
     let next = received.display;
     Call {
         passed: Passed {
@@ -78,12 +80,6 @@ fn take_piece(before: Passed, piece: &[u8], shown: bool) -> Call
             check,
         },
         taken: received.taken,
-    }
-}
-
-fn show(shown: bool, taken: usize, answer: Answer, reply: &[u8], packet: &[u8]) {
-    if shown {
-        show_answer(taken, answer, reply, packet);
     }
 }
 

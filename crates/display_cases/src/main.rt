@@ -4,9 +4,8 @@
 // answers has run and compared.
 //
 // The keys: `s` a fresh display that watches h1 and h2, `f` feeds it a stream, `z` feeds it a number of
-// zeros, `a` a number of acknowledgements with no answer printed, `t` ticks it; `r` and `p` call it
-// once with a reply or a packet buffer that is a byte too short; `c` prints its counts and rows; `k`
-// cuts a stream at every place.
+// zeros, `a` a number of acknowledgements with no answer printed, `t` ticks it, `b` calls it with
+// buffers that are a byte too short, `c` prints its counts and rows, `k` cuts a stream at every place.
 mod calls;
 mod cuts;
 mod feeding;
@@ -48,10 +47,9 @@ fn run_case(display: Display, line: &[u8], bytes: &[u8]) -> Display {
         b'z' => feeding::feed_zeros(display, line::number(bytes)),
         b'a' => feeding::feed_acknowledgements(display, line::number(bytes)),
         b't' => display::tick(display),
-        b'r' => calls::short_reply(display, bytes),
-        b'p' => calls::short_packet(display, bytes),
+        b'b' => calls::short_buffers(display, bytes),
         b'c' => calls::show_display(display),
-        b'k' => cuts::compare(bytes),
+        b'k' => cuts::compare(display, bytes),
         _ => display,
     }
 }

@@ -8,19 +8,16 @@ use Rattle.display_cases.proofs.cuts.alike.Statement.{statement}
 use Rattle.display_cases.proofs.cuts.alike.Tie as tie
 
 abbrev Inv-loop : tie.InvT-loop
-Inv-loop stream whole count₀ place₀ count place = (place ≤ length stream + 1) × (count ≤ place)
+Inv-loop before stream whole count₀ place₀ count place = (place ≤ length stream + 1) × (count ≤ place)
 
 abbrev μ-loop : tie.MeasureT-loop
-μ-loop stream whole count₀ place₀ count place = length stream + 1 - place
+μ-loop before stream whole count₀ place₀ count place = length stream + 1 - place
 
 loop-holds : tie.Need-loop-holds Inv-loop μ-loop
 loop-holds c = omega arith
 
 cut-at-requires : tie.Need-cut-at-requires Inv-loop μ-loop
 cut-at-requires c κs = tt
-
-same-requires : tie.Need-same-requires Inv-loop μ-loop
-same-requires c κs = tt
 
 add-count : tie.Need-add-count Inv-loop μ-loop
 add-count c = omega arith
@@ -45,7 +42,6 @@ alike-spec =
     μ-loop
     loop-holds
     cut-at-requires
-    same-requires
     add-count
     add-place
     loop-less

@@ -12,9 +12,6 @@ Inv-loop stream passed₀ i₀ passed i = i ≤ length stream
 abbrev μ-loop : tie.MeasureT-loop
 μ-loop stream passed₀ i₀ passed i = length stream - i
 
-start-requires : tie.Need-start-requires Inv-loop μ-loop
-start-requires c κs = tt
-
 loop-holds : tie.Need-loop-holds Inv-loop μ-loop
 loop-holds c = omega arith
 
@@ -39,6 +36,9 @@ loop-less c = omega arith
 loop-again : tie.Need-loop-again Inv-loop μ-loop
 loop-again c = omega arith
 
+total-requires : tie.Need-total-requires Inv-loop μ-loop
+total-requires c κs = tt
+
 returns : tie.Need-returns Inv-loop μ-loop
 returns c = search needs
 
@@ -48,7 +48,6 @@ byte-by-byte-spec =
     (tie.spec
     Inv-loop
     μ-loop
-    start-requires
     loop-holds
     add-end
     sub-pass
@@ -57,4 +56,5 @@ byte-by-byte-spec =
     pass-requires
     loop-less
     loop-again
+    total-requires
     returns)

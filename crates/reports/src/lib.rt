@@ -1,0 +1,49 @@
+// What a display counted and shows, on standard output, in the lines that `history` puts together. No
+// contract can say what is written; each function answers whether all was.
+use history::lines::LINE_MAX;
+use libc::STDOUT_FILENO;
+use link::counts::Counts;
+use rows::Board;
+use rows::ROWS;
+use rows::Row;
+
+// The rows that have a name.
+pub fn rows(board: Board) -> bool {
+    let mut i: usize = 0;
+    while i < ROWS {
+        let shown = board.rows[i];
+        let written = row(shown);
+        if !written {
+            return false;
+        }
+        i += 1;
+    }
+    true
+}
+
+fn row(row: Row) -> bool {
+    let mut line = [0u8; LINE_MAX];
+    let length = history::lines::row(&mut line, row);
+    first(&line, length)
+}
+
+// The two lines of counts.
+pub fn counts(counts: Counts) -> bool {
+    let mut line = [0u8; LINE_MAX];
+    let length = history::lines::counts(&mut line, counts);
+    if !first(&line, length) {
+        return false;
+    }
+    let refused = counts.refused;
+    let mut last = [0u8; LINE_MAX];
+    let count = history::lines::refused(&mut last, &refused);
+    first(&last, count)
+}
+
+// The first `length` bytes of a line.
+fn first(line: &[u8], length: usize) -> bool {
+    if line.len() < length {
+        return false;
+    }
+    io::write_all(STDOUT_FILENO, &line[..length])
+}

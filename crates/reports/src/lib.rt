@@ -1,11 +1,21 @@
-// What a display counted and shows, on standard output, in the lines that `history` puts together. No
-// contract can say what is written; each function answers whether all was.
+// What a display sent, counted and shows, on standard output, in the lines that `history` puts
+// together. No contract can say what is written; each function answers whether all was.
 use history::lines::LINE_MAX;
 use libc::STDOUT_FILENO;
 use link::counts::Counts;
 use rows::Board;
 use rows::ROWS;
 use rows::Row;
+
+// A reply that the display sent: the first `count` bytes.
+pub fn reply(bytes: &[u8], count: usize) -> bool {
+    if bytes.len() < count {
+        return false;
+    }
+    let mut line = [0u8; LINE_MAX];
+    let length = history::lines::reply(&mut line, &bytes[..count]);
+    first(&line, length)
+}
 
 // The rows that have a name.
 pub fn rows(board: Board) -> bool {

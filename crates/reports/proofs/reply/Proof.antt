@@ -1,9 +1,9 @@
--- `replay::print::reply` reads within its reply.
+-- `reports::reply` reads within its reply: the count was tested first.
 use native.Mathlib.Omega.{arith}
 use lib.ListN.{length-take}
 use borrow.Author.Needs.{needs}
-use Rattle.replay.proofs.print.reply.Statement.{statement}
-use Rattle.replay.proofs.print.reply.Tie as tie
+use Rattle.reports.proofs.reply.Statement.{statement}
+use Rattle.reports.proofs.reply.Tie as tie
 
 returns : tie.Need-returns
 returns c = search needs

@@ -9,6 +9,7 @@ use native.Mathlib.Omega.{arith}
 use lib.IntN.{ℤ}
 use lib.ListN.{length, take}
 use Rattle.refusals.specs.Numbers.{notWatched}
+use Rattle.slices.specs.Pair.{pairOf}
 use Rattle.slices.proofs.TestLaws.{both}
 use Rattle.packet.specs.Packet.{packetOf}
 use Rattle.rows.specs.Names.{placeOf, isSome, isIn}
@@ -17,7 +18,7 @@ use Rattle.rows.specs.Entries.{Entry, entryName, boardShowing}
 use Rattle.rows.specs.declared.Board.{Board}
 use Rattle.rows.proofs.NameLaws.{in-used, empty-unused, used-first}
 use Rattle.rows.proofs.EntryLaws.{Named, showing-names}
-use Rattle.board.specs.WatchList.{Good, mayJoin, sizeOf, isWhole, namesFrom, watchNames}
+use Rattle.board.specs.WatchList.{Good, mayJoin, isWhole, namesFrom, watchNames}
 use Rattle.board.specs.Reading.{Verdict, refused, endMark, update, taskOf, verdictOf, ifWatched, readingOf, refusedWith, updated, applied, readBoard}
 use Rattle.board.specs.declared.reading.Answer.the-variants.{Updated, EndMark}
 use Rattle.board.proofs.WatchLaws.{Fits, none-empty, fresh-name, good-none, good-more}
@@ -39,12 +40,12 @@ names-good zero names [] out o e = let same : names ≡ out = cc in rw (← same
 names-good zero names (tag ∷ []) out o e = let z : _≡_ {A = ℕ} 0 1 = cc in absurd (omega arith)
 names-good zero names (tag ∷ high ∷ []) out o e = let z : _≡_ {A = ℕ} 0 1 = cc in absurd (omega arith)
 names-good zero names (tag ∷ high ∷ low ∷ rest) out o e =
-    cases (isWhole tag (sizeOf high low) rest && mayJoin names (take (sizeOf high low) rest)) refl
-    (λ more next. names-good (sizeOf high low) (names ++ (take (sizeOf high low) rest ∷ [])) rest out more next) e
+    cases (isWhole tag (pairOf high low) rest && mayJoin names (take (pairOf high low) rest)) refl
+    (λ more next. names-good (pairOf high low) (names ++ (take (pairOf high low) rest ∷ [])) rest out more next) e
   where
-    cases : (t : Bool) → (isWhole tag (sizeOf high low) rest && mayJoin names (take (sizeOf high low) rest)) ≡ t → (Good (names ++ (take (sizeOf high low) rest ∷ [])) → namesFrom (sizeOf high low) (names ++ (take (sizeOf high low) rest ∷ [])) rest ≡ some out → Good out) → cond t (namesFrom (sizeOf high low) (names ++ (take (sizeOf high low) rest ∷ [])) rest) none ≡ some out → Good out
+    cases : (t : Bool) → (isWhole tag (pairOf high low) rest && mayJoin names (take (pairOf high low) rest)) ≡ t → (Good (names ++ (take (pairOf high low) rest ∷ [])) → namesFrom (pairOf high low) (names ++ (take (pairOf high low) rest ∷ [])) rest ≡ some out → Good out) → cond t (namesFrom (pairOf high low) (names ++ (take (pairOf high low) rest ∷ [])) rest) none ≡ some out → Good out
     cases true h below e =
-        below (good-more names (take (sizeOf high low) rest) o (both (isWhole tag (sizeOf high low) rest) (mayJoin names (take (sizeOf high low) rest)) h .second)) e
+        below (good-more names (take (pairOf high low) rest) o (both (isWhole tag (pairOf high low) rest) (mayJoin names (take (pairOf high low) rest)) h .second)) e
     cases false h below e = let z : _≡_ {A = ℕ} 0 1 = cc in absurd (omega arith)
 names-good (suc skip) names [] out o e = let z : _≡_ {A = ℕ} 0 1 = cc in absurd (omega arith)
 names-good (suc skip) names (byte ∷ rest) out o e = names-good skip names rest out o e

@@ -9,9 +9,10 @@ use lib.Dec.{leb, eqb}
 use lib.ListN.{length, take, drop, getD, length-drop, drop-of-length-le}
 use lib.Seq.{drop-drop}
 use borrow.Author.Tests.{leb-true}
+use Rattle.slices.specs.Pair.{pairOf}
 use Rattle.slices.proofs.TestLaws.{both}
 use Rattle.rows.specs.Rows.{boardOf}
-use Rattle.board.specs.WatchList.{Good, mayJoin, sizeOf, isWhole, namesFrom, watchNames, fieldOf, asField, watchBoard, acceptedWith, asWatched}
+use Rattle.board.specs.WatchList.{Good, mayJoin, isWhole, namesFrom, watchNames, fieldOf, asField, watchBoard, acceptedWith, asWatched}
 use Rattle.board.specs.declared.list.Field.the-variants.{Name, Bad}
 use Rattle.board.specs.declared.list.Listed.the-variants.{Accepted, Refused}
 use Rattle.board.specs.declared.list.Watched.{Watched}
@@ -32,7 +33,7 @@ field-bad names [] h e = absurd (omega arith)
 field-bad names (tag ∷ []) h e = refl
 field-bad names (tag ∷ high ∷ []) h e = refl
 field-bad names (tag ∷ high ∷ low ∷ rest) h e =
-    rw (cut (isWhole tag (sizeOf high low) rest) (sizeOf high low) e)
+    rw (cut (isWhole tag (pairOf high low) rest) (pairOf high low) e)
   where
     cut : (t : Bool) (size : ℕ) → cond t (some size) none ≡ none → t ≡ false
     cut true size e = let z : _≡_ {A = ℕ} 0 1 = cc in absurd (omega arith)
@@ -49,8 +50,8 @@ field-size [] size e = let z : _≡_ {A = ℕ} 0 1 = cc in absurd (omega arith)
 field-size (tag ∷ []) size e = let z : _≡_ {A = ℕ} 0 1 = cc in absurd (omega arith)
 field-size (tag ∷ high ∷ []) size e = let z : _≡_ {A = ℕ} 0 1 = cc in absurd (omega arith)
 field-size (tag ∷ high ∷ low ∷ rest) size e =
-    let w = whole (isWhole tag (sizeOf high low) rest) (sizeOf high low) size e in
-    let all : sizeOf high low ≤ length rest = leb-true (sizeOf high low) (length rest) (both (eqb tag 0x01) (leb (sizeOf high low) (length rest)) (w .0) .second) in
+    let w = whole (isWhole tag (pairOf high low) rest) (pairOf high low) size e in
+    let all : pairOf high low ≤ length rest = leb-true (pairOf high low) (length rest) (both (eqb tag 0x01) (leb (pairOf high low) (length rest)) (w .0) .second) in
     omega arith
 
 -- 01, The board: the name joins, and the rest of the list is read by the same rule
@@ -60,8 +61,8 @@ field-next names [] size e = let z : _≡_ {A = ℕ} 0 1 = cc in absurd (omega a
 field-next names (tag ∷ []) size e = let z : _≡_ {A = ℕ} 0 1 = cc in absurd (omega arith)
 field-next names (tag ∷ high ∷ []) size e = let z : _≡_ {A = ℕ} 0 1 = cc in absurd (omega arith)
 field-next names (tag ∷ high ∷ low ∷ rest) size e =
-    let w = whole (isWhole tag (sizeOf high low) rest) (sizeOf high low) size e in
-    let all : sizeOf high low ≤ length rest = leb-true (sizeOf high low) (length rest) (both (eqb tag 0x01) (leb (sizeOf high low) (length rest)) (w .0) .second) in
+    let w = whole (isWhole tag (pairOf high low) rest) (pairOf high low) size e in
+    let all : pairOf high low ≤ length rest = leb-true (pairOf high low) (length rest) (both (eqb tag 0x01) (leb (pairOf high low) (length rest)) (w .0) .second) in
     let past : size + 3 ≡ suc (suc (suc size)) = omega arith in
     let fits : size ≤ length rest = omega (arith, w .1) in
     rw (w .0, w .1, past, skipped size (names ++ (take size rest ∷ [])) rest fits)
@@ -74,7 +75,7 @@ field-short (tag ∷ []) h = refl
 field-short (tag ∷ high ∷ []) h = refl
 field-short (tag ∷ high ∷ low ∷ rest) h = absurd (omega arith)
 
-pub field-at : (fields : List ℕ) → 3 ≤ length fields → fieldOf fields ≡ cond (isWhole (getD fields 0 0) (sizeOf (getD fields 1 0) (getD fields 2 0)) (drop 3 fields)) (some (sizeOf (getD fields 1 0) (getD fields 2 0))) none
+pub field-at : (fields : List ℕ) → 3 ≤ length fields → fieldOf fields ≡ cond (isWhole (getD fields 0 0) (pairOf (getD fields 1 0) (getD fields 2 0)) (drop 3 fields)) (some (pairOf (getD fields 1 0) (getD fields 2 0))) none
 unfolding fieldOf
 field-at [] h = absurd (omega arith)
 field-at (tag ∷ []) h = absurd (omega arith)

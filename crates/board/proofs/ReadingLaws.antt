@@ -3,23 +3,23 @@
 use mathlib.Core.Path.{_≡_, refl, sym, ap, _∙_}
 use mathlib.Core.Bool.{Bool, true, false, cond, _&&_}
 use mathlib.Core.List.{List}
-use mathlib.Core.Option.{some, none}
+use mathlib.Core.Option.{Option, some, none}
 use Prim.Native.Nat.{ℕ, _≤_, _<_}
 use native.Mathlib.Omega.{arith}
 use lib.Dec.{eqb, ltb}
 use lib.IntN.{ℤ}
 use borrow.Author.Tests.{eq-eqb, ne-eqb, lt-ltb, le-ltb}
 use Rattle.refusals.specs.Numbers.{otherOpcode, badName, badValue, notWatched}
-use Rattle.packet.specs.Names.{validName}
-use Rattle.packet.specs.Items.{Item, eofKind, countOf, firstOf, behindOf}
+use Rattle.packet.specs.Names.{between, validName}
+use Rattle.packet.specs.Items.{Item, eofKind, countOf, firstOf, valueBytes, valueIn, behindOf}
 use Rattle.packet.specs.Packet.{Judged, packet, judgedItems}
 use Rattle.packet.specs.Packet as judged
 use Rattle.packet.specs.Answers as packet-answers
 use Rattle.packet.specs.declared.reading.Reading.the-variants as packet-reading
-use Rattle.rows.specs.Names.{placeOf}
+use Rattle.rows.specs.Names.{placeOf, isIn}
 use Rattle.value.specs.Value.{valueOf}
-use Rattle.rows.specs.Rows.{rowNames, updateBoard}
-use Rattle.board.specs.Reading.{nameKind, updateOpcode, Task, reject, finish, apply, taskOfItems, taskOf, valueOfItem, withValue, withName, verdictOf, ifWatched, updated, applied, refusedWith, readUpdate, asTask}
+use Rattle.rows.specs.Rows.{rowNames, watched, updateBoard}
+use Rattle.board.specs.Reading.{nameKind, updateOpcode, Verdict, refused, Task, reject, finish, apply, taskOfItems, taskOf, valueOfItem, withValue, withName, verdictOf, ifWatched, updated, applied, refusedWith, readUpdate, asTask}
 use Rattle.rows.specs.declared.Board.{Board}
 use Rattle.board.specs.declared.reading.Task.the-variants.{Reject, Finish, Apply}
 use Rattle.board.specs.declared.reading.Answer.the-variants.{Updated}
@@ -93,33 +93,41 @@ unfolding taskOf judgedItems asTask
 was-apply (judged.packet p) e = by-opcode (eqb (p .opcode) updateOpcode) (p .items) e
 was-apply (judged.refused number) e = let z : _≡_ {A = ℕ} 0 1 = cc in absurd (omega arith)
 
+-- without a Name there are no bytes, which are no valid name
+by-name : (name : Option Item) (value : Option ℤ) → withName name value ≡ cond (validName (valueBytes name)) (withValue (valueBytes name) value) (refused badName)
+unfolding withName valueBytes validName between
+by-name none value = refl
+by-name (some item) value = refl
+
 module _ (board : Board) (items : List Item) where
-  pub update-no-name : firstOf nameKind items ≡ none → readUpdate board items ≡ refusedWith board badName
-  unfolding readUpdate verdictOf withName ifWatched applied
-  update-no-name e = rw e
+  -- the packet's one Name settles the verdict by its bytes
+  named : readUpdate board items ≡ applied board (ifWatched (watched board) (cond (validName (valueIn nameKind items)) (withValue (valueIn nameKind items) (valueOfItem (behindOf nameKind items))) (refused badName)))
+  unfolding readUpdate verdictOf valueIn
+  named = ap (λ (verdict : Verdict). applied board (ifWatched (watched board) verdict)) (by-name (firstOf nameKind items) (valueOfItem (behindOf nameKind items)))
 
-  module _ (name : Item) (named : firstOf nameKind items ≡ some name) where
-    pub update-bad-name : validName (name .value) ≡ false → readUpdate board items ≡ refusedWith board badName
-    unfolding readUpdate verdictOf withName ifWatched applied
-    update-bad-name bad = rw (named, bad)
+  pub update-bad-name : validName (valueIn nameKind items) ≡ false → readUpdate board items ≡ refusedWith board badName
+  unfolding ifWatched applied
+  update-bad-name bad = rw (named, bad)
 
-    module _ (valid : validName (name .value) ≡ true) where
-      pub update-no-value : behindOf nameKind items ≡ none → readUpdate board items ≡ refusedWith board badValue
-      unfolding readUpdate verdictOf withName valueOfItem withValue ifWatched applied
-      update-no-value e = rw (named, valid, e)
+  module _ (valid : validName (valueIn nameKind items) ≡ true) where
+    -- no unused row has a valid name
+    in-rows : isIn (valueIn nameKind items) (watched board) ≡ isIn (valueIn nameKind items) (rowNames board)
+    in-rows = in-used (valueIn nameKind items) (rowNames board) (valid-fit (valueIn nameKind items) valid .some)
 
-      module _ (item : Item) (valued : behindOf nameKind items ≡ some item) where
-        pub update-bad-value : valueOf (item .kind) (item .value) ≡ none → readUpdate board items ≡ refusedWith board badValue
-        unfolding readUpdate verdictOf withName valueOfItem withValue ifWatched applied
-        update-bad-value bad = rw (named, valid, valued, bad)
+    pub update-no-value : behindOf nameKind items ≡ none → readUpdate board items ≡ refusedWith board badValue
+    unfolding valueOfItem withValue ifWatched applied
+    update-no-value e = rw (named, valid, e)
 
-        module _ (value : ℤ) (good : valueOf (item .kind) (item .value) ≡ some value) where
-          pub update-unwatched : placeOf (name .value) (rowNames board) ≡ none → readUpdate board items ≡ refusedWith board notWatched
-          unfolding readUpdate verdictOf withName valueOfItem withValue ifWatched applied
-          update-unwatched nowhere =
-              rw (named, valid, valued, good, in-used (name .value) (rowNames board) (valid-fit (name .value) valid .some), nowhere)
+    module _ (item : Item) (valued : behindOf nameKind items ≡ some item) where
+      pub update-bad-value : valueOf (item .kind) (item .value) ≡ none → readUpdate board items ≡ refusedWith board badValue
+      unfolding valueOfItem withValue ifWatched applied
+      update-bad-value bad = rw (named, valid, valued, bad)
 
-          pub update-row : (place : ℕ) → placeOf (name .value) (rowNames board) ≡ some place → readUpdate board items ≡ record { board = updateBoard place value board; answer = Updated place }
-          unfolding readUpdate verdictOf withName valueOfItem withValue ifWatched applied updated
-          update-row place there =
-              rw (named, valid, valued, good, in-used (name .value) (rowNames board) (valid-fit (name .value) valid .some), there) (ap (updated board value) there)
+      module _ (value : ℤ) (good : valueOf (item .kind) (item .value) ≡ some value) where
+        pub update-unwatched : placeOf (valueIn nameKind items) (rowNames board) ≡ none → readUpdate board items ≡ refusedWith board notWatched
+        unfolding valueOfItem withValue ifWatched applied
+        update-unwatched nowhere = rw (named, valid, valued, good, in-rows, nowhere)
+
+        pub update-row : (place : ℕ) → placeOf (valueIn nameKind items) (rowNames board) ≡ some place → readUpdate board items ≡ record { board = updateBoard place value board; answer = Updated place }
+        unfolding valueOfItem withValue ifWatched applied updated
+        update-row place there = rw (named, valid, valued, good, in-rows, there) (ap (updated board value) there)

@@ -1,6 +1,6 @@
 -- 01, The board: "The watch list is stored as tagged fields: one-byte tag, two-byte length (high byte first), value. Tag 01 is a
 -- name. At most 16 names, 0 allowed, no name twice; a bad name, another tag or a cut field is refusal 15 too."
-use Prim.Native.Nat.{ℕ, zero, suc, _+_, _*_, _≤_}
+use Prim.Native.Nat.{ℕ, zero, suc, _≤_}
 use mathlib.Core.Path.{_≡_}
 use mathlib.Core.Bool.{Bool, true, cond, not, _&&_}
 use mathlib.Core.List.{List, [], _∷_, _++_}
@@ -8,6 +8,7 @@ use mathlib.Core.Option.{Option, some, none}
 use lib.Dec.{eqb, leb, ltb}
 use lib.ListN.{length, take}
 use Rattle.refusals.specs.Numbers.{badList}
+use Rattle.slices.specs.Pair.{pairOf}
 use Rattle.packet.specs.Names.{validName}
 use Rattle.rows.specs.Names.{placeOf, isIn}
 use Rattle.rows.specs.Rows.{rowCount, rowNames, watched, freshRow, putRow, boardOf}
@@ -35,10 +36,6 @@ pub record Good (names : List (List ℕ)) : Type 0 where
   pub once : distinct names ≡ true
   pub few : length names ≤ rowCount
 
--- the length that a field has
-abbrev pub sizeOf : ℕ → ℕ → ℕ
-sizeOf high low = high * 256 + low
-
 -- whether a field is a whole name: the value is no longer than the rest behind the length
 abbrev pub isWhole : ℕ → ℕ → List ℕ → Bool
 isWhole tag size rest = eqb tag 0x01 && leb size (length rest)
@@ -50,8 +47,8 @@ namesFrom zero names [] = some names
 namesFrom zero names (tag ∷ []) = none
 namesFrom zero names (tag ∷ high ∷ []) = none
 namesFrom zero names (tag ∷ high ∷ low ∷ rest) =
-    cond (isWhole tag (sizeOf high low) rest && mayJoin names (take (sizeOf high low) rest))
-    (namesFrom (sizeOf high low) (names ++ (take (sizeOf high low) rest ∷ [])) rest)
+    cond (isWhole tag (pairOf high low) rest && mayJoin names (take (pairOf high low) rest))
+    (namesFrom (pairOf high low) (names ++ (take (pairOf high low) rest ∷ [])) rest)
     none
 namesFrom (suc skip) names [] = none
 namesFrom (suc skip) names (byte ∷ rest) = namesFrom skip names rest
@@ -65,7 +62,7 @@ unfoldable pub fieldOf : List ℕ → Option ℕ
 fieldOf [] = none
 fieldOf (tag ∷ []) = none
 fieldOf (tag ∷ high ∷ []) = none
-fieldOf (tag ∷ high ∷ low ∷ rest) = cond (isWhole tag (sizeOf high low) rest) (some (sizeOf high low)) none
+fieldOf (tag ∷ high ∷ low ∷ rest) = cond (isWhole tag (pairOf high low) rest) (some (pairOf high low)) none
 
 -- how the code answers a field
 abbrev pub asField : Option ℕ → Field

@@ -93,9 +93,7 @@ fn read_field(rest: &[u8]) -> Field
     if rest[0] != NAME_TAG {
         return Field::Bad;
     }
-    let high = rest[1] as usize;
-    let low = rest[2] as usize;
-    let size = high * 256 + low;
+    let size = slices::pair(rest[1], rest[2]) as usize;
     if rest.len() - 3 < size {
         return Field::Bad;
     }

@@ -85,30 +85,20 @@ fn judge_items(packet: &[u8]) -> Task
 fn read_update(board: Board, packet: &[u8]) -> Reading
     ensures { λ r. ⌜ r ≡ readUpdate board (packetItems (now (packet .entry))) ⌝ }
 {
-    let Found::At {
-        kind: _,
-        start,
-        length,
-    } = packet::find(packet, NAME_KIND)
-    else {
-        return refused(board, refusals::BAD_NAME);
-    };
-    let end = start + length;
-    let name = &packet[start..end];
-    let valid = valid_name(name);
-    if !valid {
+    let name = packet::value(packet, NAME_KIND);
+    if !valid_name(name) {
         return refused(board, refusals::BAD_NAME);
     }
     let Found::At {
         kind,
-        start: first,
-        length: count,
+        start,
+        length,
     } = packet::behind(packet, NAME_KIND)
     else {
         return refused(board, refusals::BAD_VALUE); // nothing behind the Name
     };
-    let last = first + count;
-    let Value::Number(value) = read_value(kind, &packet[first..last]) else {
+    let end = start + length;
+    let Value::Number(value) = read_value(kind, &packet[start..end]) else {
         return refused(board, refusals::BAD_VALUE);
     };
     let Place::Row(place) = find(board, name) else {

@@ -1,5 +1,5 @@
 // Streams fed to a display, one call after the other.
-use crate::report::print_answer;
+use crate::calls::show_answer;
 use display::Answer;
 use display::Display;
 ghost use Rattle.display.specs.Taking.{Takes};
@@ -27,6 +27,27 @@ pub fn feed(display: Display, stream: &[u8]) -> Display {
     passed.display
 }
 
+// At most 388 zeros, one more than the longest content.
+pub fn feed_zeros(display: Display, count: u64) -> Display {
+    let zeros = [0u8; 388];
+    if 388 < count {
+        return display;
+    }
+    let end = count as usize;
+    feed(display, &zeros[..end])
+}
+
+// The same acknowledgement many times, with no answer printed.
+pub fn feed_acknowledgements(display: Display, count: u64) -> Display {
+    let mut passed = Passed { display, check: 0 };
+    let mut i: u64 = 0;
+    while i < count {
+        passed = pass(passed, b"\x7e\x02\x01\x6b\x4c\x7e", false);
+        i += 1;
+    }
+    passed.display
+}
+
 // Feeds a whole stream; `shown` says whether the answers are printed.
 pub fn pass(before: Passed, stream: &[u8], shown: bool) -> Passed {
     let mut passed = before;
@@ -49,7 +70,9 @@ fn take_piece(before: Passed, piece: &[u8], shown: bool) -> Call
     let received = display::receive(display, piece, &mut reply, &mut packet);
     let answer = received.answer;
     let check = marked(before.check, answer, &reply, &packet);
-    show(shown, received.taken, answer, &reply, &packet);
+    if shown {
+        show_answer(received.taken, answer, &reply, &packet);
+    }
     let next = received.display;
     Call {
         passed: Passed {
@@ -57,12 +80,6 @@ fn take_piece(before: Passed, piece: &[u8], shown: bool) -> Call
             check,
         },
         taken: received.taken,
-    }
-}
-
-fn show(shown: bool, taken: usize, answer: Answer, reply: &[u8], packet: &[u8]) {
-    if shown {
-        print_answer(taken, answer, reply, packet);
     }
 }
 

@@ -1,61 +1,61 @@
-// Runs the display on the streams that document 01 says are run and compared: each answer is printed,
-// then the counts and the rows. The file `stdout` has the lines that a reader of document 01 expects.
+// Runs the display on the streams of the file `stdin`, and prints the answer of each call, then the
+// counts and the rows. That is compared with the file `stdout`, which has what document 01 says of
+// them: The receiver, The board, Refusal numbers for the order of refusals, and the cases that Known
+// answers has run and compared.
+//
+// The keys: `s` a fresh display that watches h1 and h2, `f` feeds it a stream, `z` feeds it a number of
+// zeros, `a` a number of acknowledgements with no answer printed, `t` ticks it, `b` calls it with
+// buffers that are a byte too short, `c` prints its counts and rows, `k` cuts a stream at every place.
+mod calls;
 mod cuts;
 mod feeding;
-mod report;
 
+use cases::line;
+use cases::print;
 use display::Display;
-use feeding::feed;
 use feeding::hive;
-use report::print_answer;
-use report::print_display;
-use report::print_text;
+use libc::STDIN_FILENO;
 
 fn main() {
-    repeated();
-    unread();
-    short_buffers();
-    cuts::compare();
+    let mut input = io::large_buffer();
+    let length = io::read_full(STDIN_FILENO, &mut input);
+    run_all(&input[..length]);
 }
 
-// Case 6 of document 01 with sequence 01, sent twice with a tick between: the second is "again" and
-// does not restart the age.
-fn repeated() {
-    print_text(b"repeated\n");
-    let frame = b"\x7e\x01\x01\x01\x03\x00\x00\x01\x02\x68\x31\x16\x04\x00\x00\x0d\x7a\xb4\x58\x7e";
-    let first = feed(hive(), frame);
-    let later = display::tick(first);
-    let last = feed(later, frame);
-    print_display(last);
+fn run_all(text: &[u8]) {
+    let mut display = hive();
+    let mut at: usize = 0;
+    while at < text.len() {
+        let end = at + line::length(&text[at..]);
+        display = run(display, &text[at..end]);
+        at = end + 1;
+    }
 }
 
-// A packet that the board refuses: its frame is new, acknowledged and handed out, and is no longer
-// new when it comes again.
-fn unread() {
-    print_text(b"unread\n");
-    let frame = b"\x7e\x01\x02\x01\x03\x00\x00\x01\x02\x68\x33\x0f\x01\x01\x92\xc7\x7e";
-    let first = feed(hive(), frame);
-    let last = feed(first, frame);
-    print_display(last);
+fn run(display: Display, line: &[u8]) -> Display {
+    let mut bytes = [0u8; 120];
+    let count = line::bytes(line, &mut bytes);
+    run_case(display, line, &bytes[..count])
 }
 
-// Either buffer a byte too short is refused and nothing is taken, so the piece is not lost.
-fn short_buffers() {
-    print_text(b"short buffers\n");
-    let mut reply = [0u8; 9];
-    let mut packet = [0u8; 383];
-    let mut short_reply = [0u8; 8];
-    let mut short_packet = [0u8; 382];
-    let frame = b"\x7e\x01\x03\x01\x03\x00\x00\x14\x00\xca\xaa\x7e";
-    let first = lend(hive(), frame, &mut short_reply, &mut packet);
-    let second = lend(first, frame, &mut reply, &mut short_packet);
-    let last = lend(second, frame, &mut reply, &mut packet);
-    print_display(last);
+// A line with another key is a heading or empty.
+fn run_case(display: Display, line: &[u8], bytes: &[u8]) -> Display {
+    let key = line::key(line);
+    match key {
+        b's' => start(line),
+        b'f' => feeding::feed(display, bytes),
+        b'z' => feeding::feed_zeros(display, line::number(bytes)),
+        b'a' => feeding::feed_acknowledgements(display, line::number(bytes)),
+        b't' => display::tick(display),
+        b'b' => calls::short_buffers(display, bytes),
+        b'c' => calls::show_display(display),
+        b'k' => cuts::compare(display, bytes),
+        _ => display,
+    }
 }
 
-fn lend(display: Display, piece: &[u8], reply: &mut [u8], packet: &mut [u8]) -> Display {
-    let received = display::receive(display, piece, reply, packet);
-    let answer = received.answer;
-    print_answer(received.taken, answer, reply, packet);
-    received.display
+fn start(line: &[u8]) -> Display {
+    line::label(line);
+    print::text(b"\n");
+    hive()
 }

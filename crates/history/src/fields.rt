@@ -1,6 +1,6 @@
 // The head of a tagged field: its tag and, high byte first, its length.
 ghost use mathlib.Core.Path.{_≡_};
-ghost use Prim.Native.Nat.{_+_, _*_};
+ghost use Rattle.slices.specs.Pair.{pairOf};
 ghost use Rattle.history.specs.Fields.{headOf, nameHead, tickHead};
 
 // The tags of fields behind the names.
@@ -21,9 +21,9 @@ pub enum Head {
 
 // Judges a head. `listing` says that no field but names came before, so that a name may come.
 pub fn judge(tag: u8, high: u8, low: u8, listing: bool) -> Head
-    ensures { λ r. ⌜ r ≡ headOf tag (high * 256 + low) listing ⌝ }
+    ensures { λ r. ⌜ r ≡ headOf tag (pairOf high low) listing ⌝ }
 {
-    let size = high as usize * 256 + low as usize;
+    let size = slices::pair(high, low) as usize;
     if FIELD_MAX < size {
         return Head::Broken;
     }

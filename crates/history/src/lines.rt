@@ -31,12 +31,12 @@ pub fn reply(out: &mut [u8], bytes: &[u8]) -> usize
 pub fn row(out: &mut [u8], row: Row) -> usize
     ensures { λ r. ⌜ Appends (rowLine row) (now (out .entry)) 0 (now (out .exit)) r ⌝ }
 {
-    let name = row.name;
-    let length = rows::name_length(row);
-    if length == 0 {
+    let bytes = row.name;
+    let name = slices::first(&bytes, row.length);
+    if name.len() == 0 {
         return 0;
     }
-    let place = append(out, 0, &name[..length]);
+    let place = append(out, 0, name);
     let shown = row.state;
     state(out, place, shown)
 }

@@ -1,6 +1,6 @@
 -- The places that `find` and `behind` answer are those of the items: the value read there is the item's value. The items stand
 -- one behind the other from the fifth byte on, so each place is the number of bytes before it.
-use mathlib.Core.Path.{_≡_, refl}
+use mathlib.Core.Path.{_≡_, refl, sym, ap, _∙_}
 use mathlib.Core.Bool.{Bool, true, false, cond}
 use mathlib.Core.List.{List, [], _∷_, _++_, append-assoc}
 use mathlib.Core.Option.{Option, none, some}
@@ -10,7 +10,8 @@ use lib.Dec.{eqb}
 use lib.ListN.{length, take, drop, getD, length-append, length-drop, take-append-drop}
 use lib.Seq.{take-append-seam, drop-append-add, length-take-le}
 use Rattle.refusals.specs.Numbers.{noDataPacket}
-use Rattle.packet.specs.Items.{Item, itemsOf, itemBytes, itemsBytes, headOf, firstOf, behindOf}
+use Rattle.slices.specs.Pair.{pairOf}
+use Rattle.packet.specs.Items.{Item, itemsOf, itemBytes, itemsBytes, headOf, firstOf, valueBytes, valueIn, behindOf}
 use Rattle.packet.specs.Packet.{refused, isData, withItems, packetOf, judgedItems, packetItems}
 use Rattle.packet.specs.Answers.{placed, past, headIn, findIn, behindIn, itemAt}
 use Rattle.packet.specs.declared.items.Found.{Found}
@@ -83,7 +84,7 @@ module _ (bytes : List ℕ) (P : List Item → Type 0) (none-held : P []) (held 
   unfolding packetItems packetOf judgedItems withItems
   packet-items = cases (isData bytes) (itemsOf (drop 4 bytes)) refl refl
     where
-      cases : (t : Bool) (read : Option (List Item)) → isData bytes ≡ t → itemsOf (drop 4 bytes) ≡ read → P (judgedItems (cond t (withItems (getD bytes 1 0) (getD bytes 2 0 * 256 + getD bytes 3 0) read) (refused noDataPacket)))
+      cases : (t : Bool) (read : Option (List Item)) → isData bytes ≡ t → itemsOf (drop 4 bytes) ≡ read → P (judgedItems (cond t (withItems (getD bytes 1 0) (pairOf (getD bytes 2 0) (getD bytes 3 0)) read) (refused noDataPacket)))
       cases false read h e = none-held
       cases true none h e = none-held
       cases true (some items) h e = held items (data-length bytes h) e
@@ -99,6 +100,11 @@ module _ (bytes : List ℕ) (kind : ℕ) where
   find-reads =
       packet-items bytes (λ (items : List Item). Reads bytes (findIn 4 kind items) (firstOf kind items)) (nothing-reads bytes)
       (λ items long e. rw (split bytes items e, length-take-le 4 bytes long) at (first-reads kind (take 4 bytes) items))
+
+  -- the bytes at the place that `find` answers are the value of the first item of the kind
+  pub value-found : (found : Found) → findIn 4 kind (packetItems bytes) ≡ found → valueBytes (itemAt bytes found) ≡ valueIn kind (packetItems bytes)
+  unfolding valueIn
+  value-found found e = ap valueBytes (ap (itemAt bytes) (sym e) ∙ find-reads .same)
 
   -- what `behind` answers is the item right behind it
   pub behind-found-reads : Reads bytes (behindIn 4 kind (packetItems bytes)) (behindOf kind (packetItems bytes))

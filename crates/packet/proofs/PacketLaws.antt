@@ -3,12 +3,13 @@ use mathlib.Core.Path.{_≡_, refl, sym}
 use mathlib.Core.Bool.{Bool, true, false, cond}
 use mathlib.Core.List.{List, []}
 use mathlib.Core.Option.{Option, none, some}
-use Prim.Native.Nat.{ℕ, _+_, _*_, _≤_}
+use Prim.Native.Nat.{ℕ, _≤_}
 use native.Mathlib.Omega.{arith}
 use lib.Dec.{leb, eqb}
 use lib.ListN.{length, getD, drop}
 use borrow.Author.Tests.{leb-true}
 use Rattle.refusals.specs.Numbers.{noDataPacket}
+use Rattle.slices.specs.Pair.{pairOf}
 use Rattle.slices.proofs.TestLaws.{both}
 use Rattle.packet.specs.Items.{Item, itemsOf, countOf}
 use Rattle.packet.specs.Packet.{refused, isData, withItems, packetOf, judgedItems, packetItems}
@@ -53,11 +54,11 @@ module _ (bytes : List ℕ) (kind : ℕ) where
   -- what the reader found is what there is
   pub tally-told : {all count : ℕ} {first behind head : Found} → packetTally kind bytes ≡ Items all count first behind head → record { all = all; count = count; first = first; behind = behind } ≡ surveyOf kind (packetItems bytes)
   unfolding packetTally packetItems packetOf
-  tally-told e = told-by (getD bytes 1 0) (getD bytes 2 0 * 256 + getD bytes 3 0) kind (isData bytes) (itemsOf (drop 4 bytes)) e
+  tally-told e = told-by (getD bytes 1 0) (pairOf (getD bytes 2 0) (getD bytes 3 0)) kind (isData bytes) (itemsOf (drop 4 bytes)) e
 
   pub tally-broken : packetTally kind bytes ≡ Broken → record { all = 0; count = 0; first = Nothing; behind = Nothing } ≡ surveyOf kind (packetItems bytes)
   unfolding packetTally packetItems packetOf countOf findIn behindIn
-  tally-broken e = broken-by (getD bytes 1 0) (getD bytes 2 0 * 256 + getD bytes 3 0) kind (isData bytes) (itemsOf (drop 4 bytes)) e
+  tally-broken e = broken-by (getD bytes 1 0) (pairOf (getD bytes 2 0) (getD bytes 3 0)) kind (isData bytes) (itemsOf (drop 4 bytes)) e
 
   -- the three answers of the packet reader
   pub reading-no-data : isData bytes ≡ false → Refused 9 ≡ readingOf (packetOf bytes)
@@ -68,10 +69,10 @@ module _ (bytes : List ℕ) (kind : ℕ) where
   unfolding packetOf packetTally
   reading-bad-items h e =
       let t : tallyOf 4 kind (itemsOf (drop 4 bytes)) ≡ Broken = rw h at e in
-      rw h (sym (refused-by (getD bytes 1 0) (getD bytes 2 0 * 256 + getD bytes 3 0) kind (itemsOf (drop 4 bytes)) t))
+      rw h (sym (refused-by (getD bytes 1 0) (pairOf (getD bytes 2 0) (getD bytes 3 0)) kind (itemsOf (drop 4 bytes)) t))
 
-  pub reading-packet : {all count : ℕ} {first behind head : Found} → isData bytes ≡ true → packetTally kind bytes ≡ Items all count first behind head → Packet (getD bytes 1 0) (getD bytes 2 0 * 256 + getD bytes 3 0) ≡ readingOf (packetOf bytes)
+  pub reading-packet : {all count : ℕ} {first behind head : Found} → isData bytes ≡ true → packetTally kind bytes ≡ Items all count first behind head → Packet (getD bytes 1 0) (pairOf (getD bytes 2 0) (getD bytes 3 0)) ≡ readingOf (packetOf bytes)
   unfolding packetOf packetTally
   reading-packet h e =
       let t = rw h at e in
-      rw h (sym (read-by (getD bytes 1 0) (getD bytes 2 0 * 256 + getD bytes 3 0) kind (itemsOf (drop 4 bytes)) t))
+      rw h (sym (read-by (getD bytes 1 0) (pairOf (getD bytes 2 0) (getD bytes 3 0)) kind (itemsOf (drop 4 bytes)) t))

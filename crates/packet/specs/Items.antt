@@ -1,5 +1,5 @@
 -- 01, Items and packets: what items a string of bytes holds, and how a caller picks among them.
--- `itemsOf` is the rule; `countOf`, `firstOf` and `behindOf` are what callers ask of a list of items.
+-- `itemsOf` is the rule; `countOf`, `firstOf`, `valueIn` and `behindOf` are what callers ask of a list of items.
 use Prim.Native.Nat.{ℕ, zero, suc, _+_}
 use mathlib.Core.Bool.{Bool, true, cond, _&&_}
 use mathlib.Core.List.{List, [], _∷_, _++_}
@@ -74,6 +74,15 @@ headOf (item ∷ items) = some item
 unfoldable pub firstOf : ℕ → List Item → Option Item
 firstOf kind [] = none
 firstOf kind (item ∷ items) = cond (eqb (item .kind) kind) (some item) (firstOf kind items)
+
+-- the value of an item, no bytes where there is none
+unfoldable pub valueBytes : Option Item → List ℕ
+valueBytes none = []
+valueBytes (some item) = item .value
+
+-- the value of the first item of the kind
+unfoldable pub valueIn : ℕ → List Item → List ℕ
+valueIn kind items = valueBytes (firstOf kind items)
 
 -- 01, Items and packets: the item right behind it, the first item of the kind
 unfoldable pub behindOf : ℕ → List Item → Option Item

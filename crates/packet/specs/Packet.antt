@@ -1,11 +1,12 @@
 -- 01, Items and packets: a data packet is 01, opcode, request id (two bytes, high first), items. `packetOf` judges any bytes.
-use Prim.Native.Nat.{ℕ, _+_, _*_, _/_, _%_}
+use Prim.Native.Nat.{ℕ, _/_, _%_}
 use mathlib.Core.Bool.{Bool, cond, _&&_}
 use mathlib.Core.List.{List, [], _∷_}
 use mathlib.Core.Option.{Option, none, some}
 use lib.Dec.{leb, eqb}
 use lib.ListN.{length, getD, drop}
 use Rattle.refusals.specs.Numbers.{noDataPacket, badItems}
+use Rattle.slices.specs.Pair.{pairOf}
 use Rattle.packet.specs.Items.{Item, itemsOf, itemsBytes}
 
 pub record Packet : Type 0 where
@@ -31,7 +32,7 @@ withItems opcode id (some items) = packet (record { opcode = opcode; id = id; it
 unfoldable pub packetOf : List ℕ → Judged
 packetOf bytes =
     cond (isData bytes)
-    (withItems (getD bytes 1 0) (getD bytes 2 0 * 256 + getD bytes 3 0) (itemsOf (drop 4 bytes)))
+    (withItems (getD bytes 1 0) (pairOf (getD bytes 2 0) (getD bytes 3 0)) (itemsOf (drop 4 bytes)))
     (refused noDataPacket)
 
 -- the items of a packet, and no items where it is refused

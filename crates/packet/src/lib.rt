@@ -13,6 +13,7 @@ pub use reading::count;
 pub use reading::count_all;
 pub use reading::find;
 pub use reading::read_packet;
+pub use reading::value;
 pub use requests::Offset;
 pub use requests::Written;
 pub use requests::fetched;

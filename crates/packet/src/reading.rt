@@ -1,7 +1,7 @@
 // Data packets: the reader of a packet's first four bytes, and what its items are asked for.
 ghost use mathlib.Core.Path.{_≡_};
 ghost use lib.ListN.{length};
-ghost use Rattle.packet.specs.Items.{countOf};
+ghost use Rattle.packet.specs.Items.{countOf, valueIn};
 ghost use Rattle.packet.specs.Packet.{isData, packetOf, packetItems};
 ghost use Rattle.packet.specs.Answers.{findIn, behindIn, readingOf};
 ghost use Rattle.packet.specs.Walk.{packetTally, surveyOf};
@@ -62,10 +62,7 @@ pub fn read_packet(s: &[u8]) -> Reading
         return Reading::Refused(BAD_ITEMS);
     };
     let opcode = s[1];
-    let high = s[2] as u16;
-    let low = s[3] as u16;
-    let raised = high * 256;
-    let id = raised + low;
+    let id = slices::pair(s[2], s[3]);
     Reading::Packet { opcode, id }
 }
 
@@ -115,6 +112,22 @@ pub fn find(s: &[u8], kind: u8) -> Found
     ensures { λ r. ⌜ r ≡ findIn 4 kind (packetItems (now (s .entry))) ⌝ }
 {
     look_over(s, kind).first
+}
+
+// The value of the first item of the kind in a packet; empty where there is none.
+pub fn value(s: &[u8], kind: u8) -> &[u8]
+    ensures { λ r. ⌜ now r ≡ valueIn kind (packetItems (now (s .entry))) ⌝ }
+{
+    let Found::At {
+        kind: _,
+        start,
+        length,
+    } = find(s, kind)
+    else {
+        return &s[..0];
+    };
+    let end = start + length;
+    &s[start..end]
 }
 
 // The item right behind the first item of the kind in a packet; in a refused one nothing is found.

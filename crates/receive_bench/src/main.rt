@@ -1,10 +1,13 @@
-// Feeds a stream from standard input to a display, in pieces of the size that the first argument
-// says and as often as the second says, and prints the counts and what h1 shows, without its sign.
-// `make bench-receive` times it on long streams; the stored run is a short one.
+// Feeds a stream from standard input to a display, in pieces of the size that the first argument says
+// and as often as the second says, and prints the counts and the rows. `make bench-receive` times it on
+// long streams, and holds its output to that of a receiver in C.
+//
+// The stored run is a short stream, three times in pieces of seven bytes, and its output is compared
+// with the file `stdout`. By document 01, The receiver, each time brings case 6 with sequence 01, an
+// update of h2 that is sent twice, an acknowledgement, an update of a name that is not watched, which
+// is unread, and one byte between flags, which is refused by 3.
 use display::Display;
 ghost use Prim.Native.Nat.{_≤_, min};
-use rows::Row;
-use rows::State;
 
 fn main() {
     let size = argument(1);
@@ -96,42 +99,6 @@ fn feed_piece(display: Display, piece: &[u8], reply: &mut [u8], packet: &mut [u8
 
 fn print_display(display: Display) {
     let link = display.link;
-    let counts = link.counts;
-    print_count(b"new", counts.new);
-    print_count(b" again", counts.again);
-    print_count(b" heard", counts.heard);
-    print_count(b" unread", counts.unread);
-    print_text(b" refused");
-    let refused = counts.refused;
-    print_counts(&refused);
-    let board = display.board;
-    let row = board.rows[0];
-    print_row(row);
-}
-
-fn print_counts(counts: &[u16]) {
-    let mut i: usize = 0;
-    while i < counts.len() {
-        print_count(b"", counts[i]);
-        i += 1;
-    }
-}
-
-fn print_count(label: &[u8], count: u16) {
-    print_text(label);
-    print_text(b" ");
-    io::print_decimal(1, count as u64);
-}
-
-fn print_row(row: Row) {
-    let state = row.state;
-    if let State::Current { value, age: _ } = state {
-        print_text(b" h1 ");
-        io::print_decimal(1, value::magnitude(value));
-    }
-    print_text(b"\n");
-}
-
-fn print_text(text: &[u8]) {
-    io::write_all(1, text);
+    reports::counts(link.counts);
+    reports::rows(display.board);
 }

@@ -1,21 +1,6 @@
-// What the program prints: lines that `history` puts into a buffer. Each function answers whether
-// all was written.
+// What the program prints at its end. Each function answers whether all was written.
 use display::Display;
-use history::lines::LINE_MAX;
 use libc::STDOUT_FILENO;
-use rows::Board;
-use rows::ROWS;
-use rows::Row;
-
-// A reply that the display sent: the first `count` bytes.
-pub fn reply(bytes: &[u8], count: usize) -> bool {
-    if bytes.len() < count {
-        return false;
-    }
-    let mut line = [0u8; LINE_MAX];
-    let length = history::lines::reply(&mut line, &bytes[..count]);
-    first(&line, length)
-}
 
 // The history is broken at the field that was read last.
 pub fn broken() -> bool {
@@ -26,44 +11,8 @@ pub fn broken() -> bool {
 pub fn report(display: Display) -> bool {
     let board = display.board;
     let link = display.link;
-    if !rows(board) {
+    if !reports::rows(board) {
         return false;
     }
-    let counts = link.counts;
-    let mut line = [0u8; LINE_MAX];
-    let length = history::lines::counts(&mut line, counts);
-    if !first(&line, length) {
-        return false;
-    }
-    let refused = counts.refused;
-    let mut last = [0u8; LINE_MAX];
-    let count = history::lines::refused(&mut last, &refused);
-    first(&last, count)
-}
-
-fn rows(board: Board) -> bool {
-    let mut i: usize = 0;
-    while i < ROWS {
-        let shown = board.rows[i];
-        let written = row(shown);
-        if !written {
-            return false;
-        }
-        i += 1;
-    }
-    true
-}
-
-fn row(row: Row) -> bool {
-    let mut line = [0u8; LINE_MAX];
-    let length = history::lines::row(&mut line, row);
-    first(&line, length)
-}
-
-// The first `length` bytes of a line.
-fn first(line: &[u8], length: usize) -> bool {
-    if line.len() < length {
-        return false;
-    }
-    io::write_all(STDOUT_FILENO, &line[..length])
+    reports::counts(link.counts)
 }

@@ -1,5 +1,4 @@
 // Reading a history, one field at a time.
-use crate::print;
 use board::Listed;
 use display::Answer;
 use display::Display;
@@ -126,8 +125,8 @@ fn print_reply(answer: Answer, reply: &[u8]) -> bool {
             reply: length,
             packet: _,
             reading: _,
-        } => print::reply(reply, length),
-        Answer::Again(length) => print::reply(reply, length),
+        } => reports::reply(reply, length),
+        Answer::Again(length) => reports::reply(reply, length),
         Answer::Nothing => true,
         Answer::Refused(_) => true,
         Answer::Heard(_) => true,

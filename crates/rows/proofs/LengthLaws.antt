@@ -1,4 +1,4 @@
--- A row has its 27 name bytes and a board its sixteen rows: owning an array says how long it is.
+-- A board has its sixteen rows: owning an array says how long it is.
 use mathlib.Core.Path.{_≡_}
 use mathlib.Core.List.{List}
 use lib.ListN.{length, length-map}
@@ -6,18 +6,10 @@ use denote.Laws.{Is}
 use denote.Struct.Declared as declared
 use denote.Struct.Laws as struct
 use mir.Val.{Val}
-use Rattle.rows.specs.declared.Row.{Row}
 use Rattle.rows.specs.declared.Board.{Board}
-use Rattle.rows.specs.Rows.{nameRoom, rowCount}
-use Rattle.rows.proofs.Row as row-type
-use Rattle.rows.proofs.Row.Laws as row-laws
+use Rattle.rows.specs.Rows.{rowCount}
 use Rattle.rows.proofs.Board as board-type
 use Rattle.rows.proofs.Board.Laws as board-laws
-
-pub name-bytes : (row : Row) (vs : List Val) → Is (declared.row row-type.the-type) row vs → length (row .name) ≡ nameRoom
-name-bytes row vs p =
-    let all = struct.owed row-type.the-type row-laws.the-laws row vs p in
-    simp length-map at (all .0 .1 .0 .1)
 
 pub board-rows : (board : Board) (vs : List Val) → Is (declared.row board-type.the-type) board vs → length (board .rows) ≡ rowCount
 board-rows board vs p =

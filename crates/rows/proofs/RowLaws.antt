@@ -1,14 +1,12 @@
 -- The laws that the loops over the rows cite: rows are changed one after the other, and a name is looked for row by row.
 use mathlib.Core.Path.{_≡_, refl, ap}
-use mathlib.Core.Bool.{Bool, true, false}
+use mathlib.Core.Bool.{true, false}
 use mathlib.Core.List.{List, [], _∷_, map}
 use mathlib.Core.Option.{some, none}
-use Prim.Native.Nat.{ℕ, zero, suc, _≤_, _<_, min}
+use Prim.Native.Nat.{ℕ, zero, suc, _≤_, _<_}
 use native.Mathlib.Omega.{arith}
-use lib.ListN.{length, take, drop, getD, set, drop-of-length-le}
-use lib.Dec.{leb}
-use lib.Seq.{drop-cons, take-all}
-use borrow.Author.Tests.{leb-true, leb-false}
+use lib.ListN.{length, drop, getD, set, drop-of-length-le}
+use lib.Seq.{drop-cons}
 use Rattle.slices.specs.Same.{sameBytes}
 use Rattle.rows.specs.declared.Row.{Row}
 use Rattle.rows.specs.declared.State.the-variants.{Never}
@@ -69,14 +67,3 @@ module _ (name : List ℕ) (names : List (List ℕ)) (i : ℕ) where
   pub place-ended : length names ≤ i → placeFrom i name (drop i names) ≡ none
   unfolding placeFrom
   place-ended h = rw (drop-of-length-le names h)
-
--- what is taken beyond the end is nothing
-pub take-min : {A : Type 0} (n most : ℕ) (l : List A) → length l ≤ most → take (min n most) l ≡ take n l
-take-min n most l h = cases (leb n most) refl
-  where
-    cases : (t : Bool) → leb n most ≡ t → take (min n most) l ≡ take n l
-    cases true e = let few : n ≤ most = leb-true _ _ e in let all : min n most ≡ n = omega arith in rw all
-    cases false e =
-        let many : most < n = leb-false _ _ e in
-        let all : min n most ≡ most = omega arith in
-        rw (all, take-all most l h, take-all n l (omega arith))

@@ -1,10 +1,9 @@
 // The rows of the board and what befalls them: ticks and updates.
 ghost use mathlib.Core.Path.{_≡_};
 ghost use mathlib.Core.List.{[]};
-ghost use Prim.Native.Nat.{min};
 ghost use Rattle.slices.specs.Same.{sameBytes};
 ghost use Rattle.rows.specs.Names.{placeOf};
-ghost use Rattle.rows.specs.Rows.{nameRoom, rowName, rowNames, tickState, tickRow, tickBoard, withState, freshRow, boardOf, updateRow, updateBoard, putRow, asPlace};
+ghost use Rattle.rows.specs.Rows.{rowName, rowNames, tickState, tickRow, tickBoard, withState, freshRow, boardOf, updateRow, updateBoard, putRow, asPlace};
 
 // How many rows the board has.
 pub const ROWS: usize = 16;
@@ -121,17 +120,6 @@ fn has_name(row: Row, name: &[u8]) -> bool
     let bytes = row.name;
     let own = slices::first(&bytes, row.length);
     slices::same(own, name)
-}
-
-// How many bytes the name of the row has.
-pub fn name_length(row: Row) -> usize
-    ensures { λ r. ⌜ r ≡ min (row .length) nameRoom ⌝ }
-{
-    if row.length < NAME_ROOM {
-        row.length
-    } else {
-        NAME_ROOM
-    }
 }
 
 // The board with the value in the row at `place`, which becomes current with age 0. A place that

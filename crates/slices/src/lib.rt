@@ -1,7 +1,8 @@
-// Bytes put into a lent buffer, and byte slices compared.
+// Bytes put into a lent buffer, byte slices compared, and two bytes read as a number.
 ghost use mathlib.Core.Path.{_≡_};
 ghost use Prim.Native.Nat.{_-_, min};
 ghost use lib.ListN.{take};
+ghost use Rattle.slices.specs.Pair.{pairOf};
 ghost use Rattle.slices.specs.Put.{putAt};
 ghost use Rattle.slices.specs.Same.{sameBytes};
 
@@ -54,4 +55,12 @@ pub fn same(a: &[u8], b: &[u8]) -> bool
         i += 1;
     }
     true
+}
+
+// Two bytes as a number, high byte first.
+pub fn pair(high: u8, low: u8) -> u16
+    ensures { λ r. ⌜ r ≡ pairOf high low ⌝ }
+{
+    let raised = high as u16 * 256;
+    raised + low as u16
 }

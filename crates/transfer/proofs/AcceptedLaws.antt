@@ -9,9 +9,9 @@ use lib.ListN.{length}
 use borrow.Author.Tests.{eqb-true, ltb-false, not-true}
 use Rattle.slices.specs.Same.{sameBytes}
 use Rattle.slices.proofs.TestLaws.{both, neither}
-use Rattle.packet.specs.Items.{Item}
+use Rattle.packet.specs.Items.{Item, valueIn}
 use Rattle.packet.specs.Packet.{Judged, packet, refused, judgedItems}
-use Rattle.transfer.specs.Fragment.{binaryKind, locationKind, valueIn, formOf}
+use Rattle.transfer.specs.Fragment.{binaryKind, locationKind, formOf}
 use Rattle.transfer.specs.Transfer.{fragmentOpcode, locationOf, knownLength, passesLength, isLong, goesOn, endsEarly, judgeEnd, judgeForm, verdictOf}
 use Rattle.transfer.specs.declared.state.Declared.{Declared}
 use Rattle.transfer.specs.declared.state.Declared.the-variants.{Known}

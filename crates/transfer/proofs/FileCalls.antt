@@ -5,8 +5,9 @@ use mathlib.Core.List.{List, [], _∷_}
 use Prim.Native.Nat.{ℕ}
 use denote.Ref.{RefT}
 use contract.Lifetimes.{Lfts}
+use Rattle.packet.specs.Items.{valueIn}
 use Rattle.packet.specs.Packet.{packetItems}
-use Rattle.transfer.specs.Fragment.{binaryKind, valueIn}
+use Rattle.transfer.specs.Fragment.{binaryKind}
 use Rattle.transfer.specs.Transfer.{startOf, outcomeBy, fileBy, verdictFor, Takes}
 use Rattle.transfer.specs.Calls.{Held, left}
 use Rattle.transfer.specs.declared.taking.Outcome.{Outcome}

@@ -2,27 +2,17 @@
 use mathlib.Core.Path.{_≡_, refl}
 use mathlib.Core.Bool.{true, false}
 use mathlib.Core.List.{List, [], _∷_}
-use mathlib.Core.Option.{some, none}
 use Prim.Native.Nat.{ℕ, _+_, _*_, _≤_, _<_}
 use native.Mathlib.Omega.{arith}
 use lib.Dec.{eqb}
 use lib.ListN.{length, getD}
 use borrow.Author.Tests.{eq-eqb, ne-eqb, lt-ltb, le-ltb, le-leb, lt-leb}
-use Rattle.packet.specs.Items.{Item, eofKind, countOf, firstOf}
-use Rattle.transfer.specs.Fragment.{binaryKind, offsetKind, lengthKind, locationKind, valueOf, valueIn, pairOf, numberOf, rightItems, isLast, rightBinary, rightLocation, declaring, formAt, formOf}
+use Rattle.slices.specs.Pair.{pairOf}
+use Rattle.packet.specs.Items.{Item, eofKind, countOf, valueIn}
+use Rattle.transfer.specs.Fragment.{binaryKind, offsetKind, lengthKind, locationKind, numberOf, rightItems, isLast, rightBinary, rightLocation, declaring, formAt, formOf}
 use Rattle.transfer.specs.declared.state.Declared.the-variants.{Unknown}
 use Rattle.transfer.specs.declared.fragment.Number.the-variants.{Is, NoNumber}
 use Rattle.transfer.specs.declared.fragment.Form.the-variants.{Good, Bad}
-
--- the value of the first item of a kind, where there is one and where there is none
-module _ (kind : ℕ) (items : List Item) where
-  pub value-some : (item : Item) → firstOf kind items ≡ some item → valueIn kind items ≡ item .value
-  unfolding valueIn valueOf
-  value-some item e = rw e
-
-  pub value-none : firstOf kind items ≡ none → valueIn kind items ≡ []
-  unfolding valueIn valueOf
-  value-none e = rw e
 
 -- a number by the length of its bytes
 pub number-one : (bytes : List ℕ) → length bytes ≡ 1 → numberOf bytes ≡ Is (getD bytes 0 0)

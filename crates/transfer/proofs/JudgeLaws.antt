@@ -9,11 +9,11 @@ use lib.ListN.{length}
 use borrow.Author.Tests.{eq-eqb, ne-eqb, lt-ltb, le-ltb}
 use Rattle.slices.specs.Put.{putAt}
 use Rattle.slices.specs.Same.{sameBytes}
-use Rattle.packet.specs.Items.{Item}
+use Rattle.packet.specs.Items.{Item, valueIn}
 use Rattle.packet.specs.Packet.{Judged, packet, refused, judgedItems, packetItems}
 use Rattle.packet.specs.Answers as packet-answers
 use Rattle.packet.specs.declared.reading.Reading.the-variants as packet-reading
-use Rattle.transfer.specs.Fragment.{binaryKind, locationKind, valueIn, formOf}
+use Rattle.transfer.specs.Fragment.{binaryKind, locationKind, formOf}
 use Rattle.transfer.specs.Transfer.{fragmentOpcode, refusedWith, locationOf, knownLength, passesLength, isLong, goesOn, judgeEnd, judgeForm, verdictOf, advanced, outcomeBy, fileBy, verdictFor, Takes}
 use Rattle.transfer.specs.declared.state.Declared.{Declared}
 use Rattle.transfer.specs.declared.fragment.Form.the-variants.{Good}

@@ -2,10 +2,10 @@
 use Prim.Native.Nat.{ℕ, _+_, _*_}
 use mathlib.Core.Bool.{Bool, cond, _&&_, _||_}
 use mathlib.Core.List.{List, [], _∷_}
-use mathlib.Core.Option.{Option, none, some}
 use lib.Dec.{leb, ltb, eqb}
 use lib.ListN.{length}
-use Rattle.packet.specs.Items.{Item, eofKind, countOf, firstOf}
+use Rattle.slices.specs.Pair.{pairOf}
+use Rattle.packet.specs.Items.{Item, eofKind, countOf, valueIn}
 use Rattle.packet.specs.Names.{validLocation}
 use Rattle.transfer.specs.declared.state.Declared.the-variants.{Unknown, Known}
 use Rattle.transfer.specs.declared.fragment.Number.{Number}
@@ -25,19 +25,6 @@ lengthKind = 0x12
 
 abbrev pub locationKind : ℕ
 locationKind = 0x13
-
--- the value of an item, no bytes where there is none
-unfoldable pub valueOf : Option Item → List ℕ
-valueOf none = []
-valueOf (some item) = item .value
-
--- the value of the first item of the kind
-unfoldable pub valueIn : ℕ → List Item → List ℕ
-valueIn kind items = valueOf (firstOf kind items)
-
--- two bytes as a number, high byte first
-abbrev pub pairOf : ℕ → ℕ → ℕ
-pairOf high low = high * 256 + low
 
 -- 01, File fragments: Offset and Length are unsigned, 1, 2 or 4 bytes. The high byte is first, as in all of 01.
 unfoldable pub numberOf : List ℕ → Number

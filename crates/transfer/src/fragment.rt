@@ -1,13 +1,14 @@
 // What a packet's items say as a fragment, and whether they have a good form.
 ghost use mathlib.Core.Path.{_≡_};
 ghost use Rattle.packet.specs.Packet.{packetItems};
-ghost use Rattle.transfer.specs.Fragment.{valueIn, pairOf, numberOf, rightItems, isLast, rightBinary, formAt, formOf};
+ghost use Rattle.transfer.specs.Fragment.{numberOf, rightItems, isLast, rightBinary, formAt, formOf};
 use crate::state::Declared;
 use packet::EOF_KIND;
-use packet::Found;
 use packet::LOCATION_KIND;
 use packet::OFFSET_KIND;
 use packet::count;
+use packet::value;
+use slices::pair;
 
 // An item's type byte is called its kind, since `type` is a keyword.
 pub const BINARY_KIND: u8 = 0x04;
@@ -130,38 +131,15 @@ fn read_number(bytes: &[u8]) -> Number
         return Number::Is(byte);
     }
     if length == 2 {
-        let word = pair(bytes[0], bytes[1]);
+        let word = pair(bytes[0], bytes[1]) as usize;
         return Number::Is(word);
     }
     if length == 4 {
-        let high = pair(bytes[0], bytes[1]);
-        let low = pair(bytes[2], bytes[3]);
+        let high = pair(bytes[0], bytes[1]) as usize;
+        let low = pair(bytes[2], bytes[3]) as usize;
         let raised = high * 65536;
         let number = raised + low;
         return Number::Is(number);
     }
     Number::NoNumber
-}
-
-fn pair(high: u8, low: u8) -> usize
-    ensures { λ r. ⌜ r ≡ pairOf high low ⌝ }
-{
-    let raised = (high as usize) * 256;
-    raised + low as usize
-}
-
-// The value of the first item of the kind in a packet; empty where there is none.
-pub(crate) fn value(packet: &[u8], kind: u8) -> &[u8]
-    ensures { λ r. ⌜ now r ≡ valueIn kind (packetItems (now (packet .entry))) ⌝ }
-{
-    let Found::At {
-        kind: _,
-        start,
-        length,
-    } = packet::find(packet, kind)
-    else {
-        return &packet[..0];
-    };
-    let end = start + length;
-    &packet[start..end]
 }

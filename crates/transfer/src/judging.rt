@@ -5,12 +5,12 @@ ghost use Rattle.transfer.specs.Transfer.{knownLength, passesLength, isL
 use crate::fragment::BINARY_KIND;
 use crate::fragment::Form;
 use crate::fragment::read_form;
-use crate::fragment::value;
 use crate::state::Declared;
 use crate::state::Transfer;
 use crate::state::goes_on;
 use crate::state::is_of;
 use packet::LOCATION_KIND;
+use packet::value;
 use refusals::BAD_FRAGMENT;
 use refusals::EARLY_END;
 use refusals::OTHER_LOCATION;

@@ -2,12 +2,12 @@
 ghost use mathlib.Core.Path.{_≡_};
 ghost use Rattle.transfer.specs.Transfer.{refusedWith, startOf, Takes};
 use crate::fragment::BINARY_KIND;
-use crate::fragment::value;
 use crate::judging::Verdict;
 use crate::judging::judge;
 use crate::state::Transfer;
 use crate::state::advanced;
 use crate::state::fresh;
+use packet::value;
 use refusals::BAD_FRAGMENT;
 
 pub enum Answer {

@@ -16,19 +16,19 @@ abbrev μ-loop : tie.MeasureT-loop
 μ-loop piece reply₀ packet₀ next₀ at₀ reply packet next at = length piece - at
 
 loop-holds : tie.Need-loop-holds Inv-loop μ-loop
-loop-holds c = search needs
+loop-holds c = omega arith
 
 sub-receive : tie.Need-sub-receive Inv-loop μ-loop
-sub-receive c = search needs
+sub-receive c = omega arith
 
 part-receive-start : tie.Need-part-receive-start Inv-loop μ-loop
-part-receive-start c = search needs
+part-receive-start c = omega arith
 
 part-receive-end : tie.Need-part-receive-end Inv-loop μ-loop
-part-receive-end c = search needs
+part-receive-end c = omega arith
 
 receive-requires : tie.Need-receive-requires Inv-loop μ-loop
-receive-requires c κs = search needs
+receive-requires c κs = tt
 
 same-length : tie.Need-same-length Inv-loop μ-loop
 same-length c = search needs
@@ -48,7 +48,7 @@ add-at c =
     omega (arith, most)
 
 loop-less : tie.Need-loop-less Inv-loop μ-loop
-loop-less c = search needs
+loop-less c = omega arith
 
 loop-again : tie.Need-loop-again Inv-loop μ-loop
 loop-again c =

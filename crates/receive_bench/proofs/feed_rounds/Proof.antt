@@ -1,4 +1,5 @@
 -- `receive_bench::feed_rounds` ends.
+use native.Mathlib.Omega.{arith}
 use Prim.Native.Nat.{_-_, _≤_}
 use mathlib.Core.Path.{_≡_, _∙_}
 use borrow.Author.Needs.{needs}
@@ -17,13 +18,13 @@ slice-aggregate-watch-list : tie.Need-slice-aggregate-watch-list Inv-loop μ-loo
 slice-aggregate-watch-list c = search needs
 
 watch-list-requires : tie.Need-watch-list-requires Inv-loop μ-loop
-watch-list-requires c κs = search needs
+watch-list-requires c κs = tt
 
 start-requires : tie.Need-start-requires Inv-loop μ-loop
-start-requires c κs = search needs
+start-requires c κs = tt
 
 loop-holds : tie.Need-loop-holds Inv-loop μ-loop
-loop-holds c = search needs
+loop-holds c = omega arith
 
 slice-aggregate-feed : tie.Need-slice-aggregate-feed Inv-loop μ-loop
 slice-aggregate-feed c = search needs
@@ -32,16 +33,16 @@ slice-aggregate-feed-2 : tie.Need-slice-aggregate-feed-2 Inv-loop μ-loop
 slice-aggregate-feed-2 c = search needs
 
 feed-requires : tie.Need-feed-requires Inv-loop μ-loop
-feed-requires c κs = search needs
+feed-requires c κs = tt
 
 add-i : tie.Need-add-i Inv-loop μ-loop
-add-i c = search needs
+add-i c = omega arith
 
 loop-less : tie.Need-loop-less Inv-loop μ-loop
-loop-less c = search needs
+loop-less c = omega arith
 
 loop-again : tie.Need-loop-again Inv-loop μ-loop
-loop-again c = search needs
+loop-again c = omega arith
 
 returns : tie.Need-returns Inv-loop μ-loop
 returns c = search needs

@@ -8,28 +8,25 @@ use Rattle.display_cases.proofs.cuts.alike.Statement.{statement}
 use Rattle.display_cases.proofs.cuts.alike.Tie as tie
 
 abbrev Inv-loop : tie.InvT-loop
-Inv-loop stream whole count₀ place₀ count place = (place ≤ length stream + 1) × (count ≤ place)
+Inv-loop before stream whole count₀ place₀ count place = (place ≤ length stream + 1) × (count ≤ place)
 
 abbrev μ-loop : tie.MeasureT-loop
-μ-loop stream whole count₀ place₀ count place = length stream + 1 - place
+μ-loop before stream whole count₀ place₀ count place = length stream + 1 - place
 
 loop-holds : tie.Need-loop-holds Inv-loop μ-loop
-loop-holds c = search needs
+loop-holds c = omega arith
 
 cut-at-requires : tie.Need-cut-at-requires Inv-loop μ-loop
-cut-at-requires c κs = search needs
-
-same-requires : tie.Need-same-requires Inv-loop μ-loop
-same-requires c κs = search needs
+cut-at-requires c κs = tt
 
 add-count : tie.Need-add-count Inv-loop μ-loop
-add-count c = search needs
+add-count c = omega arith
 
 add-place : tie.Need-add-place Inv-loop μ-loop
-add-place c = search needs
+add-place c = omega arith
 
 loop-less : tie.Need-loop-less Inv-loop μ-loop
-loop-less c = search needs
+loop-less c = omega arith
 
 loop-again : tie.Need-loop-again Inv-loop μ-loop
 loop-again c = ⊎-elim (λ w. omega arith) (λ w. omega arith) (c .if1 .came)
@@ -45,7 +42,6 @@ alike-spec =
     μ-loop
     loop-holds
     cut-at-requires
-    same-requires
     add-count
     add-place
     loop-less

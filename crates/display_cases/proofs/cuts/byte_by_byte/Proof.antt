@@ -1,4 +1,5 @@
 -- `display_cases::cuts::byte_by_byte` passes within its stream.
+use native.Mathlib.Omega.{arith}
 use Prim.Native.Nat.{_-_, _≤_}
 use borrow.Author.Needs.{needs}
 use lib.ListN.{length}
@@ -11,32 +12,32 @@ Inv-loop stream passed₀ i₀ passed i = i ≤ length stream
 abbrev μ-loop : tie.MeasureT-loop
 μ-loop stream passed₀ i₀ passed i = length stream - i
 
-start-requires : tie.Need-start-requires Inv-loop μ-loop
-start-requires c κs = search needs
-
 loop-holds : tie.Need-loop-holds Inv-loop μ-loop
-loop-holds c = search needs
+loop-holds c = omega arith
 
 add-end : tie.Need-add-end Inv-loop μ-loop
-add-end c = search needs
+add-end c = omega arith
 
 sub-pass : tie.Need-sub-pass Inv-loop μ-loop
-sub-pass c = search needs
+sub-pass c = omega arith
 
 part-pass-start : tie.Need-part-pass-start Inv-loop μ-loop
-part-pass-start c = search needs
+part-pass-start c = omega arith
 
 part-pass-end : tie.Need-part-pass-end Inv-loop μ-loop
-part-pass-end c = search needs
+part-pass-end c = omega arith
 
 pass-requires : tie.Need-pass-requires Inv-loop μ-loop
-pass-requires c κs = search needs
+pass-requires c κs = tt
 
 loop-less : tie.Need-loop-less Inv-loop μ-loop
-loop-less c = search needs
+loop-less c = omega arith
 
 loop-again : tie.Need-loop-again Inv-loop μ-loop
-loop-again c = search needs
+loop-again c = omega arith
+
+total-requires : tie.Need-total-requires Inv-loop μ-loop
+total-requires c κs = tt
 
 returns : tie.Need-returns Inv-loop μ-loop
 returns c = search needs
@@ -47,7 +48,6 @@ byte-by-byte-spec =
     (tie.spec
     Inv-loop
     μ-loop
-    start-requires
     loop-holds
     add-end
     sub-pass
@@ -56,4 +56,5 @@ byte-by-byte-spec =
     pass-requires
     loop-less
     loop-again
+    total-requires
     returns)

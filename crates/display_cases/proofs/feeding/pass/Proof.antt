@@ -14,19 +14,19 @@ abbrev μ-loop : tie.MeasureT-loop
 μ-loop stream shown passed₀ at₀ passed at = length stream - at
 
 loop-holds : tie.Need-loop-holds Inv-loop μ-loop
-loop-holds c = search needs
+loop-holds c = omega arith
 
 sub-take-piece : tie.Need-sub-take-piece Inv-loop μ-loop
-sub-take-piece c = search needs
+sub-take-piece c = omega arith
 
 part-take-piece-start : tie.Need-part-take-piece-start Inv-loop μ-loop
-part-take-piece-start c = search needs
+part-take-piece-start c = omega arith
 
 part-take-piece-end : tie.Need-part-take-piece-end Inv-loop μ-loop
-part-take-piece-end c = search needs
+part-take-piece-end c = omega arith
 
 take-piece-requires : tie.Need-take-piece-requires Inv-loop μ-loop
-take-piece-requires c κs = search needs
+take-piece-requires c κs = tt
 
 add-at : tie.Need-add-at Inv-loop μ-loop
 add-at c = let r = taken-of-rest (c .before .before .before .before .before .before .before .args .stream .now) (c .before .before .before .before .before .loop .at) _ (c .before .before .before .before .loop-test .taken) (c .before .before .take-piece .ensures) in omega (arith, r .0, r .1)

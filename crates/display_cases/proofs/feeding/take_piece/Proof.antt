@@ -11,7 +11,7 @@ slice-aggregate-receive-2 : tie.Need-slice-aggregate-receive-2
 slice-aggregate-receive-2 c = search needs
 
 receive-requires : tie.Need-receive-requires
-receive-requires c κs = search needs
+receive-requires c κs = tt
 
 slice-aggregate-marked : tie.Need-slice-aggregate-marked
 slice-aggregate-marked c = search needs
@@ -20,19 +20,19 @@ slice-aggregate-marked-2 : tie.Need-slice-aggregate-marked-2
 slice-aggregate-marked-2 c = search needs
 
 marked-requires : tie.Need-marked-requires
-marked-requires c κs = search needs
+marked-requires c κs = tt
 
-slice-aggregate-show : tie.Need-slice-aggregate-show
-slice-aggregate-show c = search needs
+slice-aggregate-show-answer : tie.Need-slice-aggregate-show-answer
+slice-aggregate-show-answer c = search needs
 
-slice-aggregate-show-2 : tie.Need-slice-aggregate-show-2
-slice-aggregate-show-2 c = search needs
+slice-aggregate-show-answer-2 : tie.Need-slice-aggregate-show-answer-2
+slice-aggregate-show-answer-2 c = search needs
 
-show-requires : tie.Need-show-requires
-show-requires c κs = search needs
+show-answer-requires : tie.Need-show-answer-requires
+show-answer-requires c κs = tt
 
 returns : tie.Need-returns
-returns c = takes _ _ _ _ _ _ _ (c .before .before .before .before .before .before .before .before .before .receive .ensures)
+returns c = takes _ _ _ _ _ _ _ (c .before .before .before .before .before .before .before .receive .ensures)
 
 pub take-piece-spec : {M : Type 1} → statement M
 take-piece-spec =
@@ -44,7 +44,7 @@ take-piece-spec =
     slice-aggregate-marked
     slice-aggregate-marked-2
     marked-requires
-    slice-aggregate-show
-    slice-aggregate-show-2
-    show-requires
+    slice-aggregate-show-answer
+    slice-aggregate-show-answer-2
+    show-answer-requires
     returns)

@@ -40,29 +40,21 @@ returns-2 c =
 shared-slice-read-opcode : tie.Need-shared-slice-read-opcode
 shared-slice-read-opcode c = let h = room (c .before .before .before .before) in omega arith
 
-shared-slice-read-high : tie.Need-shared-slice-read-high
-shared-slice-read-high c = let h = room (c .before .before .before .before .before) in omega arith
+shared-slice-read-pair : tie.Need-shared-slice-read-pair
+shared-slice-read-pair c = let h = room (c .before .before .before .before .before) in omega arith
 
-cast-high : tie.Need-cast-high
-cast-high c = omega (arith, c .shared-slice-known3 .given 2)
+shared-slice-read-pair-2 : tie.Need-shared-slice-read-pair-2
+shared-slice-read-pair-2 c = let h = room (c .before .before .before .before .before .before) in omega arith
 
-shared-slice-read-low : tie.Need-shared-slice-read-low
-shared-slice-read-low c = let h = room (c .before .before .before .before .before .before) in omega arith
-
-cast-low : tie.Need-cast-low
-cast-low c = omega (arith, c .shared-slice-known4 .given 3)
-
-mul-raised : tie.Need-mul-raised
-mul-raised c = omega (arith, c .shared-slice-known4 .given 2)
-
-add-id : tie.Need-add-id
-add-id c = omega (arith, c .shared-slice-known4 .given 2, c .shared-slice-known4 .given 3)
+pair-requires : tie.Need-pair-requires
+pair-requires c κs = search needs
 
 returns-3 : tie.Need-returns-3
 returns-3 c =
-    let told = c .before .before .before .enum-told .given in
-    reading-packet (c .before .before .before .before .before .before .before .before .before .args .s .now) 0x14 (is-data (c .before .before .before .before .before .before))
-    (sym (c .before .before .before .before .before .tally-packet .ensures) ∙ told .1)
+    let told = c .before .before .before .before in
+    let tally = told .before .before in
+    rw (c .pair .ensures)
+    (reading-packet (tally .before .before .before .before .args .s .now) 0x14 (is-data (tally .before)) (sym (tally .tally-packet .ensures) ∙ told .enum-told .given .1))
 
 pub read-packet-spec : {M : Type 1} → statement M
 read-packet-spec =
@@ -75,10 +67,7 @@ read-packet-spec =
     enum-told-2
     returns-2
     shared-slice-read-opcode
-    shared-slice-read-high
-    cast-high
-    shared-slice-read-low
-    cast-low
-    mul-raised
-    add-id
+    shared-slice-read-pair
+    shared-slice-read-pair-2
+    pair-requires
     returns-3)

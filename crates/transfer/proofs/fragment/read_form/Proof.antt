@@ -3,10 +3,10 @@ use mathlib.Core.Path.{_≡_, sym, ap, _∙_}
 use mathlib.Core.Bool.{true}
 use mathlib.Core.List.{List}
 use borrow.Author.Tests.{not-true, not-false}
-use Rattle.packet.specs.Items.{Item}
+use Rattle.packet.specs.Items.{Item, valueIn}
 use Rattle.packet.specs.Names.{validLocation}
 use Rattle.packet.specs.Packet.{packetItems}
-use Rattle.transfer.specs.Fragment.{offsetKind, valueIn, numberOf, rightItems, rightLocation, formAt, formOf}
+use Rattle.transfer.specs.Fragment.{offsetKind, numberOf, rightItems, rightLocation, formAt, formOf}
 use Rattle.transfer.proofs.FormLaws.{form-items, form-location, form-binary, form-at}
 use borrow.Author.Needs.{needs}
 use Rattle.transfer.proofs.fragment.read_form.Statement.{statement}

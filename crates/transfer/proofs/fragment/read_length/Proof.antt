@@ -2,9 +2,9 @@
 -- 0 and is a number.
 use mathlib.Core.Path.{_≡_, sym, ap, _∙_}
 use mathlib.Core.List.{List}
-use Rattle.packet.specs.Items.{Item}
+use Rattle.packet.specs.Items.{Item, valueIn}
 use Rattle.packet.specs.Packet.{packetItems}
-use Rattle.transfer.specs.Fragment.{lengthKind, valueIn, numberOf, isLast, declaring, formAt}
+use Rattle.transfer.specs.Fragment.{lengthKind, numberOf, isLast, declaring, formAt}
 use Rattle.transfer.specs.declared.fragment.Number.the-variants.{Is}
 use Rattle.transfer.proofs.FormLaws.{at-undeclared, at-late, at-declared}
 use borrow.Author.Needs.{needs}

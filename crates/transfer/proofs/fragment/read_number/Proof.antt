@@ -25,6 +25,9 @@ shared-slice-read-pair-2 c = search needs
 pair-requires : tie.Need-pair-requires
 pair-requires c κs = search needs
 
+cast-word : tie.Need-cast-word
+cast-word c = search needs
+
 returns-2 : tie.Need-returns-2
 returns-2 c =
     let test = c .before .before .before in
@@ -39,6 +42,9 @@ shared-slice-read-pair-4 c = search needs
 pair-requires-2 : tie.Need-pair-requires-2
 pair-requires-2 c κs = search needs
 
+cast-high : tie.Need-cast-high
+cast-high c = search needs
+
 shared-slice-read-pair-5 : tie.Need-shared-slice-read-pair-5
 shared-slice-read-pair-5 c = search needs
 
@@ -48,15 +54,14 @@ shared-slice-read-pair-6 c = search needs
 pair-requires-3 : tie.Need-pair-requires-3
 pair-requires-3 c κs = search needs
 
+cast-low : tie.Need-cast-low
+cast-low c = search needs
+
 mul-raised : tie.Need-mul-raised
-mul-raised c =
-    let byte = c .before .shared-slice-known8 .given in
-    omega (arith, c .before .before .before .pair2 .ensures, byte 0, byte 1)
+mul-raised c = search needs
 
 add-number : tie.Need-add-number
-add-number c =
-    let byte = c .before .shared-slice-known8 .given in
-    omega (arith, c .before .before .before .pair2 .ensures, c .pair3 .ensures, byte 0, byte 1, byte 2, byte 3)
+add-number c = search needs
 
 returns-3 : tie.Need-returns-3
 returns-3 c =
@@ -79,13 +84,16 @@ read-number-spec =
     shared-slice-read-pair
     shared-slice-read-pair-2
     pair-requires
+    cast-word
     returns-2
     shared-slice-read-pair-3
     shared-slice-read-pair-4
     pair-requires-2
+    cast-high
     shared-slice-read-pair-5
     shared-slice-read-pair-6
     pair-requires-3
+    cast-low
     mul-raised
     add-number
     returns-3

@@ -7,9 +7,9 @@ use Prim.Native.Nat.{ℕ}
 use lib.ListN.{length}
 use borrow.Author.Tests.{not-true, not-false}
 use Rattle.slices.specs.Same.{sameBytes}
-use Rattle.packet.specs.Items.{Item}
+use Rattle.packet.specs.Items.{Item, valueIn}
 use Rattle.packet.specs.Packet.{packetItems}
-use Rattle.transfer.specs.Fragment.{binaryKind, locationKind, valueIn}
+use Rattle.transfer.specs.Fragment.{binaryKind, locationKind}
 use Rattle.transfer.specs.Transfer.{locationOf, judgeEnd, judgeForm}
 use Rattle.transfer.specs.declared.state.Declared.{Declared}
 use Rattle.transfer.proofs.JudgeLaws.{form-other, form-gap, form-next}

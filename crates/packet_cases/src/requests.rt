@@ -1,0 +1,35 @@
+// A request as it is written into buffers of 18, 8 and 3 bytes, and the whole of each buffer after it.
+use cases::line;
+use cases::print;
+use packet::Offset;
+use packet::Written;
+
+pub fn show(line: &[u8], bytes: &[u8]) {
+    let mut roomy = [0xeeu8; 18];
+    show_written(line, bytes, &mut roomy);
+    let mut tight = [0xddu8; 8];
+    show_written(line, bytes, &mut tight);
+    let mut short = [0xccu8; 3];
+    show_written(line, bytes, &mut short);
+}
+
+fn show_written(line: &[u8], bytes: &[u8], out: &mut [u8]) {
+    line::label(line);
+    let written = write(line::key(line), bytes, out);
+    match written {
+        Written::Length(length) => print::number(b": length ", length as u64),
+        Written::Refused(refusal) => print::number(b": refused ", refusal as u64),
+    }
+    print::bytes(b" ", out, out.len());
+    print::text(b"\n");
+}
+
+fn write(key: u8, bytes: &[u8], out: &mut [u8]) -> Written {
+    match key {
+        b'g' => packet::property_get(0x1234, bytes, out),
+        b'f' => packet::file_request(0xff01, bytes, Offset::Omitted, out),
+        b'o' => packet::file_request(0xff01, bytes, Offset::Given(0x01020304), out),
+        b'd' => packet::fetched(256, bytes, out),
+        _ => packet::stop(255, out),
+    }
+}

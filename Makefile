@@ -9,6 +9,8 @@
 #   make soak           compare `replay` with the reference on a million histories
 #   make fuzz           fuzz the library and `replay`, each for FUZZ_SECONDS (60)
 #   make valgrind       run the host tests under valgrind, in about three minutes
+#   make mutants        try mutants of the code against the prover; of all crates it takes hours,
+#                       of some: make mutants CRATES="crc value"
 #   make bench          measure speed, stack and code size
 #   make bench-receive  measure the speed of the receiver alone
 #   make measure        measure stack and code size alone
@@ -41,7 +43,7 @@ RECEIVER ?= target/bin/receive_bench
 # What a rule compiles and links: its prerequisites without the headers.
 INPUTS = $(filter-out %.h,$^)
 
-.PHONY: all run example history_text test soak fuzz fuzz-packages valgrind bench bench-receive \
+.PHONY: all run example history_text test soak mutants fuzz fuzz-packages valgrind bench bench-receive \
 	measure clean
 .DELETE_ON_ERROR:
 
@@ -185,6 +187,15 @@ fuzz: $(FUZZ)/archive $(FUZZ)/replay
 
 valgrind: $(addprefix $(OUT)/,$(C_TESTS) serial differential replay_test display) $(REPLAY)
 	@host/valgrind/run.sh $(VALGRIND) $(OUT) $(REPLAY) $(C_TESTS)
+
+# Mutants: small wrong programs, each to be refused
+
+CRATES ?= slices crc value rows board display host link frame packet transfer history refusals
+
+mutants:
+	rt check $(CRATES)
+	mkdir -p $(OUT)
+	host/mutants/run.py $(OUT)/mutants $(CRATES)
 
 # The measurements
 

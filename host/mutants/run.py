@@ -4,9 +4,9 @@
     run.py [--kinds KIND,..] OUT CRATE..
 
 The kinds are operator, constant, swapped (two arguments), uncalled (an argument for the call) and dropped (a
-statement); all of them without --kinds. It works on a copy of the repository under OUT/work and writes OUT/CRATE.txt, a line for each mutant: verdict,
-file, function, kind, the line before and after, and the first error. A constant that its own crate does not
-pin down is tried in the crates above that name it. The verdicts:
+statement); all of them without --kinds. It works on a copy of the repository under OUT/work and writes
+OUT/CRATE.txt, a line for each mutant: verdict, file, function, kind, the line before and after, and the first
+error. A constant that its own crate does not pin down is tried in the crates above that name it. The verdicts:
 
     fact     refused: a fact of the contract, of a law or of safety does not hold
     form     refused: the proof names a place that the changed code does not have

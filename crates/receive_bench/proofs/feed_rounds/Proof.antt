@@ -1,4 +1,4 @@
--- `receive_bench::feed_rounds` ends.
+-- `receive_bench::feed_rounds` ends: each turn leaves one round less.
 use native.Mathlib.Omega.{arith}
 use Prim.Native.Nat.{_-_, _≤_}
 use mathlib.Core.Path.{_≡_, _∙_}

@@ -1,4 +1,4 @@
--- `receive_bench::number` reads within its slice.
+-- `receive_bench::number` reads within its slice: the loop stops at the end.
 use native.Mathlib.Omega.{arith}
 use Prim.Native.Nat.{_-_, _≤_}
 use borrow.Author.Needs.{needs}

@@ -1,4 +1,4 @@
--- `reports::first` writes within its line.
+-- `reports::first` writes within its line: the length was tested first.
 use native.Mathlib.Omega.{arith}
 use lib.ListN.{length-take}
 use borrow.Author.Needs.{needs}

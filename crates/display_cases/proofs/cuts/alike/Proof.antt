@@ -1,4 +1,4 @@
--- `display_cases::cuts::alike` counts no more places than there are.
+-- `display_cases::cuts::alike` counts no more places than there are: each turn counts at most the place that it goes past.
 use Prim.Native.Nat.{_+_, _-_, _≤_}
 use borrow.Author.Needs.{needs}
 use lib.ListN.{length}

@@ -1,4 +1,4 @@
--- `display_cases::cuts::byte_by_byte` passes within its stream.
+-- `display_cases::cuts::byte_by_byte` passes within its stream: the loop stops at the end.
 use native.Mathlib.Omega.{arith}
 use Prim.Native.Nat.{_-_, _≤_}
 use borrow.Author.Needs.{needs}

@@ -1,4 +1,4 @@
--- `display_cases::cuts::cut_at` cuts within its stream.
+-- `display_cases::cuts::cut_at` cuts within its stream: the place was tested first.
 use lib.ListN.{length-take}
 use native.Mathlib.Omega.{arith}
 use borrow.Author.Needs.{needs}

@@ -1,4 +1,4 @@
--- `display_cases::feeding::feed_zeros` lends as many zeros as it has.
+-- `display_cases::feeding::feed_zeros` lends as many zeros as it has: the number was tested first.
 use native.Mathlib.Omega.{arith}
 use lib.ListN.{length-take}
 use borrow.Author.Needs.{needs}

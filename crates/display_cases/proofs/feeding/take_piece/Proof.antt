@@ -1,4 +1,4 @@
--- `display_cases::feeding::take_piece` takes what its call takes.
+-- `display_cases::feeding::take_piece` takes what its call takes: the display says so of each of its calls.
 use Rattle.display.proofs.TakingLaws.{takes}
 use borrow.Author.Needs.{needs}
 use Rattle.display_cases.proofs.feeding.take_piece.Statement.{statement}

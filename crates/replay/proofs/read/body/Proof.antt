@@ -1,4 +1,4 @@
--- `replay::read::body` reads within its space.
+-- `replay::read::body` reads within its space: the length was tested first.
 use borrow.Author.Needs.{needs}
 use native.Mathlib.Omega.{arith}
 use lib.ListN.{length-take}

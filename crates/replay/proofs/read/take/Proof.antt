@@ -1,4 +1,4 @@
--- `replay::read::take` takes what its call takes.
+-- `replay::read::take` takes what its call takes: the display says so of each of its calls.
 use Rattle.display.proofs.TakingLaws.{takes}
 use borrow.Author.Needs.{needs}
 use Rattle.replay.proofs.read.take.Statement.{statement}

@@ -1,4 +1,4 @@
--- `transfer_cases::steps::give` lends within its buffer.
+-- `transfer_cases::steps::give` lends within its buffer: the length was tested first.
 use native.Mathlib.Omega.{arith}
 use lib.ListN.{length-take}
 use borrow.Author.Needs.{needs}

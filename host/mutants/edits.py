@@ -42,7 +42,7 @@ TEXT = re.compile(r'b"([^"\\\\])')
 NAME = re.compile(r"(?<![\w:])[A-Z][A-Z0-9_]+(?!\w)")
 VARIANT = re.compile(r"\b([A-Z]\w+)::([A-Z]\w+)\b(\(?)(?!\s*\{)")
 CALL = re.compile(r"\b[a-z_][\w:]*\(([^()]*(?:\([^()]*\)[^()]*)*)\)")
-FUNCTION = re.compile(r"^\s*(?:#\[no_mangle\]\s*)?(?:pub )?(?:extern \"C\" )?fn (\w+)")
+FUNCTION = re.compile(r"^\s*(?:pub(?:\(crate\))? )?(?:extern \"C\" )?fn (\w+)")
 # A line of a contract, a declaration or a comment: no code to change.
 PASSED_OVER = re.compile(r"^\s*(//|ensures|requires|ghost|use |pub use|mod |pub mod|pub enum|enum|pub struct|struct|#)")
 

@@ -116,7 +116,7 @@ def check(copy: Path, crate: str) -> tuple[str, str]:
 
 def line_of(verdict: str, file: str, mutant: Mutant, error: str) -> str:
     fields = (verdict, file, mutant.function, mutant.kind, mutant.before, mutant.after, error)
-    return "\t".join(field.replace("\t", " ") for field in fields) + "\n"
+    return "\t".join(" ".join(field.split()) for field in fields) + "\n"
 
 
 if __name__ == "__main__":

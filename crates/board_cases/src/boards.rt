@@ -5,7 +5,7 @@ use cases::line;
 use cases::print;
 use rows::Board;
 
-pub fn show_list(line: &[u8], fields: &[u8]) {
+pub(crate) fn show_list(line: &[u8], fields: &[u8]) {
     line::label(line);
     let watched = board::watch_list(fields);
     let answer = watched.answer;
@@ -18,7 +18,7 @@ pub fn show_list(line: &[u8], fields: &[u8]) {
 }
 
 // What the packet does to a board that was updated one tick ago.
-pub fn show_reading(line: &[u8], packet: &[u8]) {
+pub(crate) fn show_reading(line: &[u8], packet: &[u8]) {
     line::label(line);
     let reading = board::read(rows::tick(updated()), packet);
     let answer = reading.answer;
@@ -32,12 +32,12 @@ pub fn show_reading(line: &[u8], packet: &[u8]) {
 }
 
 // A board that watches h1 and h2, of which h1 has had the update of case 6.
-pub fn updated() -> Board {
+pub(crate) fn updated() -> Board {
     let watched = board::watch_list(b"\x01\x00\x02h1\x01\x00\x02h2");
     case_6(watched.board)
 }
 
-pub fn case_6(board: Board) -> Board {
+pub(crate) fn case_6(board: Board) -> Board {
     let reading = board::read(board, b"\x01\x03\x00\x00\x01\x02h1\x16\x04\x00\x00\x0dz");
     reading.board
 }

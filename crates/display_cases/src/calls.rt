@@ -4,7 +4,7 @@ use display::Answer;
 use display::Display;
 
 // Calls with a reply buffer, then with a packet buffer that is a byte too short.
-pub fn short_buffers(display: Display, piece: &[u8]) -> Display {
+pub(crate) fn short_buffers(display: Display, piece: &[u8]) -> Display {
     let mut reply = [0u8; 9];
     let mut packet = [0u8; 383];
     let mut short_reply = [0u8; 8];
@@ -20,7 +20,7 @@ fn call(display: Display, piece: &[u8], reply: &mut [u8], packet: &mut [u8]) -> 
     received.display
 }
 
-pub fn show_answer(taken: usize, answer: Answer, reply: &[u8], packet: &[u8]) {
+pub(crate) fn show_answer(taken: usize, answer: Answer, reply: &[u8], packet: &[u8]) {
     print::number(b"taken ", taken as u64);
     match answer {
         Answer::Nothing => print::text(b" nothing"),
@@ -49,7 +49,7 @@ fn show_reading(reading: board::Answer) {
 }
 
 // The counts, then the rows that have a name.
-pub fn show_display(display: Display) -> Display {
+pub(crate) fn show_display(display: Display) -> Display {
     let link = display.link;
     reports::counts(link.counts);
     reports::rows(display.board);

@@ -7,7 +7,7 @@ use cases::print;
 use display::Display;
 use history::lines::LINE_MAX;
 
-pub fn compare(display: Display, stream: &[u8]) -> Display {
+pub(crate) fn compare(display: Display, stream: &[u8]) -> Display {
     let before = Passed { display, check: 0 };
     let passed = pass(before, stream, true);
     show_display(passed.display);

@@ -16,19 +16,19 @@ struct Call {
 }
 
 // A fresh display that watches h1 and h2.
-pub fn hive() -> Display {
+pub(crate) fn hive() -> Display {
     let watched = board::watch_list(b"\x01\x00\x02h1\x01\x00\x02h2");
     display::start(watched.board)
 }
 
 // Feeds a whole stream and prints each answer.
-pub fn feed(display: Display, stream: &[u8]) -> Display {
+pub(crate) fn feed(display: Display, stream: &[u8]) -> Display {
     let passed = pass(Passed { display, check: 0 }, stream, true);
     passed.display
 }
 
 // At most 388 zeros, one more than the longest content.
-pub fn feed_zeros(display: Display, count: u64) -> Display {
+pub(crate) fn feed_zeros(display: Display, count: u64) -> Display {
     let zeros = [0u8; 388];
     if 388 < count {
         return display;
@@ -38,7 +38,7 @@ pub fn feed_zeros(display: Display, count: u64) -> Display {
 }
 
 // The same acknowledgement many times, with no answer printed.
-pub fn feed_acknowledgements(display: Display, count: u64) -> Display {
+pub(crate) fn feed_acknowledgements(display: Display, count: u64) -> Display {
     let mut passed = Passed { display, check: 0 };
     let mut i: u64 = 0;
     while i < count {
@@ -49,7 +49,7 @@ pub fn feed_acknowledgements(display: Display, count: u64) -> Display {
 }
 
 // Feeds a whole stream; `shown` says whether the answers are printed.
-pub fn pass(before: Passed, stream: &[u8], shown: bool) -> Passed {
+pub(crate) fn pass(before: Passed, stream: &[u8], shown: bool) -> Passed {
     let mut passed = before;
     let mut at: usize = 0;
     while at < stream.len() {

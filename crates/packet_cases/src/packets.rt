@@ -5,7 +5,7 @@ use cases::print;
 use packet::Found;
 use packet::Reading;
 
-pub fn show(line: &[u8], packet: &[u8]) {
+pub(crate) fn show(line: &[u8], packet: &[u8]) {
     line::label(line);
     let reading = packet::read_packet(packet);
     match reading {

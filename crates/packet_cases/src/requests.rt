@@ -4,7 +4,7 @@ use cases::print;
 use packet::Offset;
 use packet::Written;
 
-pub fn show(line: &[u8], bytes: &[u8]) {
+pub(crate) fn show(line: &[u8], bytes: &[u8]) {
     let mut roomy = [0xeeu8; 18];
     show_written(line, bytes, &mut roomy);
     let mut tight = [0xddu8; 8];

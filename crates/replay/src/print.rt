@@ -3,12 +3,12 @@ use display::Display;
 use libc::STDOUT_FILENO;
 
 // The history is broken at the field that was read last.
-pub fn broken() -> bool {
+pub(crate) fn broken() -> bool {
     io::write_all(STDOUT_FILENO, b"refused 15\n")
 }
 
 // The rows, then the counts.
-pub fn report(display: Display) -> bool {
+pub(crate) fn report(display: Display) -> bool {
     let board = display.board;
     let link = display.link;
     if !reports::rows(board) {

@@ -29,7 +29,7 @@ struct Taken {
 }
 
 // Reads a field and plays it. A field that is cut is broken as a whole.
-pub fn field(display: Display, listing: bool) -> Step {
+pub(crate) fn field(display: Display, listing: bool) -> Step {
     let mut start = [0u8; 1];
     let got = libc::read(STDIN_FILENO, &mut start);
     if got < 0 {

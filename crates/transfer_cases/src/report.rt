@@ -9,7 +9,7 @@ use transfer::Outcome;
 const SHOWN: usize = 10;
 
 // An answer and the transfer after it.
-pub fn show(line: &[u8], outcome: Outcome) {
+pub(crate) fn show(line: &[u8], outcome: Outcome) {
     line::label(line);
     let answer = outcome.answer;
     match answer {
@@ -34,7 +34,7 @@ fn show_end(complete: bool) {
     }
 }
 
-pub fn show_file(file: &[u8]) {
+pub(crate) fn show_file(file: &[u8]) {
     if SHOWN < file.len() {
         let start = file.len() - SHOWN;
         print::bytes(b", file ", &file[start..], SHOWN);

@@ -14,13 +14,13 @@ pub struct State {
     room: usize,
 }
 
-pub fn first() -> State {
+pub(crate) fn first() -> State {
     let outcome = transfer::start(b"loc");
     let transfer = outcome.transfer;
     State { transfer, room: 0 }
 }
 
-pub fn start(state: State, line: &[u8], location: &[u8], file: &mut [u8]) -> State {
+pub(crate) fn start(state: State, line: &[u8], location: &[u8], file: &mut [u8]) -> State {
     clear(file);
     let outcome = transfer::start(location);
     report::show(line, outcome);
@@ -37,7 +37,7 @@ fn clear(file: &mut [u8]) {
     slices::put(file, 0, &untouched);
 }
 
-pub fn give(state: State, line: &[u8], packet: &[u8], file: &mut [u8]) -> State {
+pub(crate) fn give(state: State, line: &[u8], packet: &[u8], file: &mut [u8]) -> State {
     let room = state.room;
     if file.len() < room {
         return state;
@@ -53,7 +53,7 @@ fn take(before: Transfer, line: &[u8], packet: &[u8], file: &mut [u8]) -> Transf
     outcome.transfer
 }
 
-pub fn give_alone(state: State, line: &[u8], packet: &[u8], file: &mut [u8]) -> State {
+pub(crate) fn give_alone(state: State, line: &[u8], packet: &[u8], file: &mut [u8]) -> State {
     clear(file);
     let outcome = transfer::start(b"loc");
     let transfer = outcome.transfer;
@@ -64,7 +64,7 @@ pub fn give_alone(state: State, line: &[u8], packet: &[u8], file: &mut [u8]) -> 
     give(fresh, line, packet, file)
 }
 
-pub fn with_room(state: State, bytes: &[u8]) -> State {
+pub(crate) fn with_room(state: State, bytes: &[u8]) -> State {
     let transfer = state.transfer;
     State {
         transfer,
@@ -72,7 +72,7 @@ pub fn with_room(state: State, bytes: &[u8]) -> State {
     }
 }
 
-pub fn with_next(state: State, bytes: &[u8]) -> State {
+pub(crate) fn with_next(state: State, bytes: &[u8]) -> State {
     let mut transfer = state.transfer;
     transfer.next = line::number(bytes) as usize;
     State {

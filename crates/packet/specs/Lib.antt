@@ -4,3 +4,4 @@ pub mod Names
 pub mod Answers
 pub mod Requests
 pub mod Walk
+pub mod WriterSteps

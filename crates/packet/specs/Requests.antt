@@ -2,13 +2,13 @@
 use Prim.Native.Nat.{ℕ, _/_, _%_}
 use mathlib.Core.Path.{_≡_}
 use mathlib.Core.Bool.{cond}
-use mathlib.Core.List.{List, [], _∷_, _++_}
+use mathlib.Core.List.{List, [], _∷_}
 use lib.Dec.{leb}
 use lib.ListN.{length}
 use Rattle.refusals.specs.Numbers.{shortOutput, badName, badFragment}
 use Rattle.slices.specs.Put.{putAt}
 use Rattle.packet.specs.Items.{Item}
-use Rattle.packet.specs.Packet.{Packet, withHead, packetBytes}
+use Rattle.packet.specs.Packet.{Packet, packetBytes}
 use Rattle.packet.specs.Names.{validName, validLocation}
 use Rattle.packet.specs.declared.requests.Offset.{Offset}
 use Rattle.packet.specs.declared.requests.Offset.the-variants.{Given, Omitted}
@@ -68,10 +68,6 @@ fetchedPacket id location = record { opcode = 0x0d; id = id; items = locationIte
 unfoldable pub stopPacket : ℕ → Packet
 stopPacket id = record { opcode = 0x0e; id = id; items = [] }
 
--- the bytes of a packet whose first item has the kind and the value, and whose other items have the bytes further
-abbrev pub requestBytes : ℕ → ℕ → ℕ → List ℕ → List ℕ → List ℕ
-requestBytes opcode id kind value further = withHead opcode id ((kind ∷ length value ∷ value) ++ further)
-
 -- 01, Refusal numbers: request writers check name or location (12, 20) before 7
 unfoldable pub propertyGet : ℕ → List ℕ → ℕ → Output
 propertyGet id name room = cond (validName name) (fitted room (packetBytes (getPacket id name))) (refusedBy badName)
@@ -83,11 +79,6 @@ fileRequest id location offset room =
 unfoldable pub fetchedRequest : ℕ → List ℕ → ℕ → Output
 fetchedRequest id location room =
     cond (validLocation location) (fitted room (packetBytes (fetchedPacket id location))) (refusedBy badFragment)
-
--- the two requests for a file: what both write of the location, and the bytes of the further items
-unfoldable pub locatedRequest : ℕ → ℕ → List ℕ → List ℕ → ℕ → Output
-locatedRequest opcode id location further room =
-    cond (validLocation location) (fitted room (requestBytes opcode id 0x13 location further)) (refusedBy badFragment)
 
 unfoldable pub stopRequest : ℕ → ℕ → Output
 stopRequest id room = fitted room (packetBytes (stopPacket id))

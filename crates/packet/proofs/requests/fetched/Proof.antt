@@ -2,7 +2,8 @@
 use borrow.Author.Needs.{needs}
 use Rattle.packet.specs.Items.{itemBytes, itemsBytes}
 use Rattle.packet.specs.Packet.{packetBytes}
-use Rattle.packet.specs.Requests.{fetchedRequest, locatedRequest, fetchedPacket, locationItem}
+use Rattle.packet.specs.Requests.{fetchedRequest, fetchedPacket, locationItem}
+use Rattle.packet.specs.WriterSteps.{locatedRequest}
 use Rattle.packet.proofs.requests.fetched.Statement.{statement}
 use Rattle.packet.proofs.requests.fetched.Tie as tie
 

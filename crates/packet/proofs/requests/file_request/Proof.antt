@@ -2,7 +2,8 @@
 use borrow.Author.Needs.{needs}
 use Rattle.packet.specs.Items.{itemBytes, itemsBytes}
 use Rattle.packet.specs.Packet.{packetBytes}
-use Rattle.packet.specs.Requests.{fileRequest, locatedRequest, filePacket, locationItem, offsetItem, offsetItems}
+use Rattle.packet.specs.Requests.{fileRequest, filePacket, locationItem, offsetItem, offsetItems}
+use Rattle.packet.specs.WriterSteps.{locatedRequest}
 use Rattle.packet.proofs.requests.file_request.Statement.{statement}
 use Rattle.packet.proofs.requests.file_request.Tie as tie
 

@@ -6,7 +6,7 @@ use borrow.Author.Needs.{needs}
 use borrow.Author.Tests.{not-true, not-false}
 use lib.ListN.{length}
 use Rattle.packet.specs.Names.{validLocation}
-use Rattle.packet.specs.Requests.{locatedRequest}
+use Rattle.packet.specs.WriterSteps.{locatedRequest}
 use Rattle.packet.proofs.NameLaws.{location-size}
 use Rattle.packet.proofs.WriteLaws.{writes-nothing}
 use Rattle.packet.proofs.requests.write_located.Statement.{statement}

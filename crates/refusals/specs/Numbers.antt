@@ -1,4 +1,4 @@
--- 01, Refusal numbers: each number under the name that definitions and contracts use.
+-- 01, Refusal numbers, and those of 02: each number under the name that definitions and contracts use.
 use Prim.Native.Nat.{ℕ}
 
 -- an escape byte is followed by a byte other than 5d or 5e, or a whole frame has wrong flags
@@ -80,3 +80,19 @@ earlyEnd = 19
 -- the fragment or a location has a bad form
 abbrev pub badFragment : ℕ
 badFragment = 20
+
+-- 02, C-11: an ASHv3 frame with no or a wrong first byte, reserved header escape bits set, or a header escape needless or missing
+abbrev pub badHeader : ℕ
+badHeader = 21
+
+-- 02, C-11: an ASHv3 frame of under 7 bytes, or a payload length over 57 or not the bytes present
+abbrev pub badLength : ℕ
+badLength = 22
+
+-- 02, C-11: in an ASHv3 payload a raw reserved byte, a last escape, or an escape of a byte that needs none
+abbrev pub badStuffing : ℕ
+badStuffing = 23
+
+-- 02, C-11: the check bytes of an ASHv3 frame are other than the writer's
+abbrev pub otherCheck : ℕ
+otherCheck = 24

@@ -1,4 +1,5 @@
-// The refusal numbers of document 01 under their names: no number stands bare in code.
+// The refusal numbers of document 01, and of the requests of document 02, under their names: no number
+// stands bare in code.
 
 // An escape byte is followed by a byte other than 5d or 5e, or a whole frame has wrong flags.
 pub const BAD_FRAMING: u8 = 1;
@@ -59,3 +60,16 @@ pub const EARLY_END: u8 = 19;
 
 // The fragment or a location has a bad form.
 pub const BAD_FRAGMENT: u8 = 20;
+
+// An ASHv3 frame with no or a wrong first byte, reserved header escape bits set, or a header escape
+// needless or missing.
+pub const BAD_HEADER: u8 = 21;
+
+// An ASHv3 frame of under 7 bytes, or a payload length over 57 or not the bytes present.
+pub const BAD_LENGTH: u8 = 22;
+
+// In an ASHv3 payload a raw reserved byte, a last escape, or an escape of a byte that needs none.
+pub const BAD_STUFFING: u8 = 23;
+
+// The check bytes of an ASHv3 frame are other than the writer's.
+pub const OTHER_CHECK: u8 = 24;

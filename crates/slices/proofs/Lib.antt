@@ -1,3 +1,5 @@
+pub mod EachLaws
+pub mod PartLaws
 pub mod PutLaws
 pub mod SameLaws
 pub mod TestLaws

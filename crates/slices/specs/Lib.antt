@@ -1,3 +1,4 @@
+pub mod Each
 pub mod Pair
 pub mod Put
 pub mod Same

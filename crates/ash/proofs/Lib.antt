@@ -1,0 +1,9 @@
+pub mod ReservedLaws
+pub mod HeaderLaws
+pub mod CheckLaws
+pub mod StuffLaws
+pub mod UnstuffLaws
+pub mod WriteLaws
+pub mod ReadLaws
+pub mod StuffTheorems
+pub mod PayloadLaws

@@ -1,0 +1,83 @@
+-- Five bytes are reserved, and none of them is so with bit 5 flipped: what holds of the five holds of each reserved byte.
+use mathlib.Core.Path.{_≡_, refl}
+use mathlib.Core.Bool.{Bool, true, false, _||_}
+use Prim.Native.Nat.{ℕ, zero, suc, _+_, _*_, _/_, _%_, _<_}
+use native.Mathlib.Nat.{div-add-mod'}
+use native.Mathlib.Omega.{arith}
+use lib.Arith.{bin-ind}
+use lib.Bits.{bitXor, differ, xor-step, xor-self}
+use lib.Dec.{eqb}
+use borrow.Author.Tests.{eqb-true, eqb-false, ne-eqb}
+use Rattle.ash.specs.Reserved.{reserved, flipped}
+
+pub reserved-five : (P : ℕ → Type 0) → P 0x7e → P 0x7d → P 0x11 → P 0x13 → P 0xf8 → (b : ℕ) → reserved b ≡ true → P b
+unfolding reserved
+reserved-five P flag escape xon xoff unnamed b h =
+    cases (eqb b 0x7e) (eqb b 0x7d) (eqb b 0x11) (eqb b 0x13) (eqb b 0xf8) refl refl refl refl refl h
+  where
+    cases : (t u v w x : Bool) → eqb b 0x7e ≡ t → eqb b 0x7d ≡ u → eqb b 0x11 ≡ v → eqb b 0x13 ≡ w → eqb b 0xf8 ≡ x
+        → (t || u || v || w || x) ≡ true → P b
+    cases true u v w x e f g i j h = let is : b ≡ 0x7e = eqb-true b 0x7e e in rw is flag
+    cases false true v w x e f g i j h = let is : b ≡ 0x7d = eqb-true b 0x7d f in rw is escape
+    cases false false true w x e f g i j h = let is : b ≡ 0x11 = eqb-true b 0x11 g in rw is xon
+    cases false false false true x e f g i j h = let is : b ≡ 0x13 = eqb-true b 0x13 i in rw is xoff
+    cases false false false false true e f g i j h = let is : b ≡ 0xf8 = eqb-true b 0xf8 j in rw is unnamed
+    cases false false false false false e f g i j h = let z : _≡_ {A = ℕ} 0 1 = cc in absurd (omega arith)
+
+-- no other byte is reserved
+pub not-reserved : (b : ℕ) → (b ≡ 0x7e → ⊥) → (b ≡ 0x7d → ⊥) → (b ≡ 0x11 → ⊥) → (b ≡ 0x13 → ⊥) → (b ≡ 0xf8 → ⊥) → reserved b ≡ false
+unfolding reserved
+not-reserved b flag escape xon xoff unnamed =
+    rw (ne-eqb b 0x7e flag, ne-eqb b 0x7d escape, ne-eqb b 0x11 xon, ne-eqb b 0x13 xoff, ne-eqb b 0xf8 unnamed)
+
+-- and a byte that is not none of them is
+pub reserved-unless : (b : ℕ) → ((b ≡ 0x7e → ⊥) → (b ≡ 0x7d → ⊥) → (b ≡ 0x11 → ⊥) → (b ≡ 0x13 → ⊥) → (b ≡ 0xf8 → ⊥) → ⊥) → reserved b ≡ true
+unfolding reserved
+reserved-unless b h = cases (eqb b 0x7e) (eqb b 0x7d) (eqb b 0x11) (eqb b 0x13) (eqb b 0xf8) refl refl refl refl refl
+  where
+    cases : (t u v w x : Bool) → eqb b 0x7e ≡ t → eqb b 0x7d ≡ u → eqb b 0x11 ≡ v → eqb b 0x13 ≡ w → eqb b 0xf8 ≡ x
+        → (t || u || v || w || x) ≡ true
+    cases true u v w x e f g i j = refl
+    cases false true v w x e f g i j = refl
+    cases false false true w x e f g i j = refl
+    cases false false false true x e f g i j = refl
+    cases false false false false true e f g i j = refl
+    cases false false false false false e f g i j =
+        absurd (h (eqb-false b 0x7e e) (eqb-false b 0x7d f) (eqb-false b 0x11 g) (eqb-false b 0x13 i) (eqb-false b 0xf8 j))
+
+differ-digit : (x y : ℕ) → x < 2 → y < 2 → differ x y < 2
+differ-digit zero y h k = k
+differ-digit (suc zero) zero h k = h
+differ-digit (suc zero) (suc zero) h k = omega arith
+differ-digit (suc zero) (suc (suc y)) h k = absurd (omega arith)
+differ-digit (suc (suc x)) y h k = absurd (omega arith)
+
+differ-twice : (x y : ℕ) → x < 2 → y < 2 → differ (differ x y) y ≡ x
+differ-twice zero zero h k = refl
+differ-twice zero (suc zero) h k = refl
+differ-twice (suc zero) zero h k = refl
+differ-twice (suc zero) (suc zero) h k = refl
+differ-twice (suc (suc x)) y h k = absurd (omega arith)
+differ-twice zero (suc (suc y)) h k = absurd (omega arith)
+differ-twice (suc zero) (suc (suc y)) h k = absurd (omega arith)
+
+xor-twice : (a b : ℕ) → bitXor (bitXor a b) b ≡ a
+xor-twice = bin-ind (λ (n : ℕ). (b : ℕ) → bitXor (bitXor n b) b ≡ n) (λ b. xor-self b) step
+  where
+    step : (n : ℕ) → ((b : ℕ) → bitXor (bitXor (n / 2) b) b ≡ n / 2) → (b : ℕ) → bitXor (bitXor n b) b ≡ n
+    step n rest b =
+        let high = bitXor (n / 2) (b / 2) in
+        let low = differ (n % 2) (b % 2) in
+        let digit : low < 2 = differ-digit (n % 2) (b % 2) (omega arith) (omega arith) in
+        let above : (high * 2 + low) / 2 ≡ high = omega arith in
+        let last : (high * 2 + low) % 2 ≡ low = omega arith in
+        rw (xor-step n b, xor-step (high * 2 + low) b, above, last, rest (b / 2), differ-twice (n % 2) (b % 2) (omega arith) (omega arith)) (div-add-mod' n 2)
+
+-- bit 5 flipped twice is as it was
+pub flipped-twice : (b : ℕ) → flipped (flipped b) ≡ b
+flipped-twice b = xor-twice b 0x20
+
+-- a reserved byte with bit 5 flipped is none
+pub flipped-free : (b : ℕ) → reserved b ≡ true → reserved (flipped b) ≡ false
+unfolding reserved
+flipped-free b h = reserved-five (λ b. reserved (flipped b) ≡ false) refl refl refl refl refl b h

@@ -1,0 +1,47 @@
+-- `ash::reader::hand_out` meets its contract: what the comparison of the check bytes says settles it.
+use mathlib.Core.Path.{sym, _∙_}
+use borrow.Author.Tests.{not-true, not-false}
+use Rattle.ash.specs.Check.{checkOver}
+use Rattle.ash.proofs.ReadLaws.{other-check, same-check, refuses, reads}
+use borrow.Author.Needs.{needs}
+use Rattle.ash.proofs.reader.hand_out.Statement.{statement}
+use Rattle.ash.proofs.reader.hand_out.Tie as tie
+
+check-bytes-requires : tie.Need-check-bytes-requires
+check-bytes-requires c κs = search needs
+
+slice-aggregate-same : tie.Need-slice-aggregate-same
+slice-aggregate-same c = search needs
+
+same-requires : tie.Need-same-requires
+same-requires c κs = search needs
+
+returns : tie.Need-returns
+returns c =
+    let a = c .before .before .before .before .before .before .before .args in
+    let no = sym (rw (c .before .before .before .check-bytes .ensures) at (c .before .same .ensures)) ∙ not-true _ (c .if1 .taken) in
+    refuses _ 24 (a .out .now) (other-check (a .control) (a .check .now) (checkOver (a .control) (a .size) (a .payload .now)) (a .payload .now) no)
+
+put-requires : tie.Need-put-requires
+put-requires c κs = search needs
+
+same-length : tie.Need-same-length
+same-length c = search needs
+
+returns-2 : tie.Need-returns-2
+returns-2 c =
+    let a = c .before .before .before .before .before .before .before .before .before .before .before .args in
+    let yes = sym (rw (c .before .before .before .before .before .before .before .check-bytes .ensures) at (c .before .before .before .before .before .same .ensures)) ∙ not-false _ (c .before .before .before .before .if1 .left) in
+    reads _ (a .control) (a .payload .now) (a .out .now) _ (same-check (a .control) (a .check .now) (checkOver (a .control) (a .size) (a .payload .now)) (a .payload .now) yes) (c .before .before .put .ensures)
+
+pub hand-out-spec : {M : Type 1} → statement M
+hand-out-spec =
+    tie.close
+    (tie.spec
+    check-bytes-requires
+    slice-aggregate-same
+    same-requires
+    returns
+    put-requires
+    same-length
+    returns-2)

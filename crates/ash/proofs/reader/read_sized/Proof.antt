@@ -1,0 +1,71 @@
+-- `ash::reader::read_sized` meets its contract: each refusal is the law of its test; otherwise it is what `read_payload` did with the
+-- bytes between header and check.
+use Rattle.ash.proofs.ReadLaws.{length-over, length-other, length-right, payload-part, refuses}
+use Rattle.slices.proofs.PartLaws.{part-rest}
+use Prim.Native.Nat.{_+_}
+use borrow.Author.Needs.{needs}
+use Rattle.ash.proofs.reader.read_sized.Statement.{statement}
+use Rattle.ash.proofs.reader.read_sized.Tie as tie
+
+returns : tie.Need-returns
+returns c =
+    let a = c .before .before .before .args in
+    refuses _ 22 (a .out .now) (length-over (a .control) (a .length) (a .bytes .now) (c .if1 .taken))
+
+add-if2 : tie.Need-add-if2
+add-if2 c = search needs
+
+returns-2 : tie.Need-returns-2
+returns-2 c =
+    let a = c .before .before .before .before .args in
+    refuses _ 22 (a .out .now) (length-other (a .control) (a .length) (a .bytes .now) (c .before .if1 .left) (c .if2 .taken))
+
+add-end : tie.Need-add-end
+add-end c = search needs
+
+sub-read-payload : tie.Need-sub-read-payload
+sub-read-payload c = search needs
+
+part-read-payload-start : tie.Need-part-read-payload-start
+part-read-payload-start c = search needs
+
+part-read-payload-end : tie.Need-part-read-payload-end
+part-read-payload-end c = search needs
+
+sub-read-payload-2 : tie.Need-sub-read-payload-2
+sub-read-payload-2 c = search needs
+
+part-read-payload-start-2 : tie.Need-part-read-payload-start-2
+part-read-payload-start-2 c = search needs
+
+part-read-payload-end-2 : tie.Need-part-read-payload-end-2
+part-read-payload-end-2 c = search needs
+
+read-payload-requires : tie.Need-read-payload-requires
+read-payload-requires c κs = search needs
+
+same-length : tie.Need-same-length
+same-length c = search needs
+
+returns-3 : tie.Need-returns-3
+returns-3 c =
+    let a = c .before .before .before .before .before .before .before .before .before .before .args in
+    rw (length-right (a .control) (a .length) (a .bytes .now) (c .before .before .before .before .before .before .before .if1 .left) (c .before .before .before .before .before .before .if2 .left), ← payload-part (a .bytes .now) (a .length), ← part-rest (a .bytes .now) (a .length + 4)) (c .before .before .read-payload .ensures)
+
+pub read-sized-spec : {M : Type 1} → statement M
+read-sized-spec =
+    tie.close
+    (tie.spec
+    returns
+    add-if2
+    returns-2
+    add-end
+    sub-read-payload
+    part-read-payload-start
+    part-read-payload-end
+    sub-read-payload-2
+    part-read-payload-start-2
+    part-read-payload-end-2
+    read-payload-requires
+    same-length
+    returns-3)

@@ -1,0 +1,67 @@
+-- `ash::reader::read_whole` meets its contract: a bad header is refused; otherwise it is what `read_sized` did with the bytes that the
+-- header stands for.
+use mathlib.Core.Path.{sym, _∙_}
+use borrow.Author.Tests.{not-true, not-false}
+use Rattle.ash.proofs.ReadLaws.{header-bad, header-good, refuses}
+use borrow.Author.Needs.{needs}
+use Rattle.ash.proofs.reader.read_whole.Statement.{statement}
+use Rattle.ash.proofs.reader.read_whole.Tie as tie
+
+shared-slice-read-escape : tie.Need-shared-slice-read-escape
+shared-slice-read-escape c = search needs
+
+shared-slice-read-control : tie.Need-shared-slice-read-control
+shared-slice-read-control c = search needs
+
+shared-slice-read-length : tie.Need-shared-slice-read-length
+shared-slice-read-length c = search needs
+
+good-header-requires : tie.Need-good-header-requires
+good-header-requires c κs = search needs
+
+returns : tie.Need-returns
+returns c =
+    let a = c .before .before .before .before .before .before .before .args in
+    let no = sym (c .before .good-header .ensures) ∙ not-true _ (c .if1 .taken) in
+    refuses _ 21 (a .out .now) (header-bad (a .bytes .now) no)
+
+control-escaped-requires : tie.Need-control-escaped-requires
+control-escaped-requires c κs = search needs
+
+unescape-requires : tie.Need-unescape-requires
+unescape-requires c κs = search needs
+
+length-escaped-requires : tie.Need-length-escaped-requires
+length-escaped-requires c κs = search needs
+
+unescape-requires-2 : tie.Need-unescape-requires-2
+unescape-requires-2 c κs = search needs
+
+read-sized-requires : tie.Need-read-sized-requires
+read-sized-requires c κs = search needs
+
+same-length : tie.Need-same-length
+same-length c = search needs
+
+returns-2 : tie.Need-returns-2
+returns-2 c =
+    let a = c .before .before .before .before .before .before .before .before .before .before .before .before .before .before .before .args in
+    let yes = sym (c .before .before .before .before .before .before .before .before .before .good-header .ensures) ∙ not-false _ (c .before .before .before .before .before .before .before .before .if1 .left) in
+    rw (header-good (a .bytes .now) yes, ← c .before .before .before .before .before .before .before .control-escaped .ensures, ← c .before .before .before .before .before .length-escaped .ensures, ← c .before .before .before .before .before .before .unescape .ensures, ← c .before .before .before .before .unescape2 .ensures) (c .before .before .read-sized .ensures)
+
+pub read-whole-spec : {M : Type 1} → statement M
+read-whole-spec =
+    tie.close
+    (tie.spec
+    shared-slice-read-escape
+    shared-slice-read-control
+    shared-slice-read-length
+    good-header-requires
+    returns
+    control-escaped-requires
+    unescape-requires
+    length-escaped-requires
+    unescape-requires-2
+    read-sized-requires
+    same-length
+    returns-2)

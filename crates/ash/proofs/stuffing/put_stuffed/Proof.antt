@@ -1,0 +1,86 @@
+-- `ash::stuffing::put_stuffed` meets its contract. The invariant says what is still to do: the bytes left, stuffed and put from the
+-- present place on, give what the whole payload put at the start gives.
+use mathlib.Core.Path.{_≡_, refl, _∙_}
+use Prim.Native.Nat.{_+_, _-_, _≤_, _<_}
+use native.Mathlib.Nat.{zero-add}
+use native.Mathlib.Omega.{arith}
+use borrow.Author.Needs.{needs}
+use lib.ListN.{length, drop}
+use Rattle.slices.specs.Put.{putAt}
+use Rattle.slices.proofs.EachLaws.{each-from, each-none, size-from, size-none}
+use Rattle.slices.proofs.PutLaws.{put-append}
+use Rattle.ash.specs.Stuffing.{stuffByte, stuff}
+use Rattle.ash.proofs.StuffLaws.{length-stuff}
+use Rattle.ash.proofs.stuffing.put_stuffed.Statement.{statement}
+use Rattle.ash.proofs.stuffing.put_stuffed.Tie as tie
+
+abbrev Inv-loop : tie.InvT-loop
+Inv-loop out₀ payload to₀ i₀ out to i =
+    (i ≤ length payload)
+    × (to + length (stuff (drop i payload)) ≡ length (stuff payload))
+    × (length out ≡ length out₀)
+    × (putAt out to (stuff (drop i payload)) ≡ putAt out₀ 0 (stuff payload))
+
+abbrev μ-loop : tie.MeasureT-loop
+μ-loop out₀ payload to₀ i₀ out to i = length payload - i
+
+loop-holds : tie.Need-loop-holds Inv-loop μ-loop
+loop-holds c = (omega arith, zero-add _, refl, refl)
+
+shared-slice-read-put-byte : tie.Need-shared-slice-read-put-byte Inv-loop μ-loop
+shared-slice-read-put-byte c = omega arith
+
+put-byte-requires : tie.Need-put-byte-requires Inv-loop μ-loop
+put-byte-requires c κs = search needs
+
+add-to : tie.Need-add-to Inv-loop μ-loop
+add-to c =
+    let loop = c .before .before .before .before .before .before .loop in
+    let payload = c .before .before .before .before .before .before .before .before .before .args .payload .now in
+    let more : loop .i < length payload = omega arith in
+    omega (arith, size-from stuffByte payload (loop .i) more, length-stuff payload, c .before .before .put-byte .ensures .0, loop .inv .1)
+
+add-i : tie.Need-add-i Inv-loop μ-loop
+add-i c = omega arith
+
+loop-less : tie.Need-loop-less Inv-loop μ-loop
+loop-less c = omega arith
+
+loop-again : tie.Need-loop-again Inv-loop μ-loop
+loop-again c =
+    let put = c .before .before .put-byte in
+    let loop = c .before .before .before .before .before .before .loop in
+    let payload = c .before .before .before .before .before .before .before .before .before .args .payload .now in
+    let more : loop .i < length payload = omega arith in
+    let rest = each-from stuffByte payload (loop .i) more in (
+      omega arith,
+      omega (arith, size-from stuffByte payload (loop .i) more, put .ensures .0, loop .inv .1),
+      put .kept .0 ∙ loop .inv .2,
+      rw (put .ensures .0, put .ensures .1, put-append, ← rest) (loop .inv .3),
+    )
+
+same-length : tie.Need-same-length Inv-loop μ-loop
+same-length c = c .before .loop .inv .2
+
+returns : tie.Need-returns Inv-loop μ-loop
+returns c =
+    let loop = c .before .loop in
+    let payload = c .before .before .before .before .args .payload .now in
+    let none = each-none stuffByte payload (loop .i) (c .loop-test .left) in
+    (omega (arith, size-none stuffByte payload (loop .i) (c .loop-test .left), loop .inv .1), rw none at (loop .inv .3))
+
+pub put-stuffed-spec : {M : Type 1} → statement M
+put-stuffed-spec =
+    tie.close
+    (tie.spec
+    Inv-loop
+    μ-loop
+    loop-holds
+    shared-slice-read-put-byte
+    put-byte-requires
+    add-to
+    add-i
+    loop-less
+    loop-again
+    same-length
+    returns)

@@ -1,0 +1,33 @@
+-- 02, C-11 and 002, 3.8: the four bytes in front of the payload, flag, header escape, control and length.
+use Prim.Native.Nat.{ℕ, _+_, _/_, _%_}
+use mathlib.Core.Bool.{Bool, cond, _&&_}
+use mathlib.Core.List.{List, [], _∷_}
+use lib.Dec.{eqb}
+use Rattle.ash.specs.Reserved.{flagByte, reserved, flipped, rightlyEscaped}
+
+-- 80 hex if the control byte is escaped, plus 40 if the length byte is
+abbrev pub headerEscape : ℕ → ℕ → ℕ
+headerEscape control size = cond (reserved control) 0x80 0 + cond (reserved size) 0x40 0
+
+-- before escaping
+unfoldable pub headerOf : ℕ → ℕ → List ℕ
+headerOf control size = flagByte ∷ headerEscape control size ∷ control ∷ size ∷ []
+
+abbrev pub sentByte : ℕ → ℕ
+sentByte b = cond (reserved b) (flipped b) b
+
+-- as it is sent
+unfoldable pub sentHeader : ℕ → ℕ → List ℕ
+sentHeader control size = flagByte ∷ headerEscape control size ∷ sentByte control ∷ sentByte size ∷ []
+
+-- 002, 3.8: the two bits of a header escape byte; the other six are reserved
+abbrev pub controlEscaped : ℕ → Bool
+controlEscaped escape = eqb (escape / 0x80 % 2) 1
+
+abbrev pub lengthEscaped : ℕ → Bool
+lengthEscaped escape = eqb (escape / 0x40 % 2) 1
+
+-- no reserved bit is set, and no header escape is needless or missing
+unfoldable pub goodHeader : ℕ → ℕ → ℕ → Bool
+goodHeader escape control size =
+    eqb (escape % 0x40) 0 && (rightlyEscaped (controlEscaped escape) control && rightlyEscaped (lengthEscaped escape) size)

@@ -1,0 +1,115 @@
+// The reader of one frame.
+use crate::FLAG;
+use crate::FRAME_MIN;
+use crate::HEADER_SIZE;
+use crate::PAYLOAD_MAX;
+use crate::check::check_bytes;
+use crate::escapes::unescape;
+use crate::header::control_escaped;
+use crate::header::good_header;
+use crate::header::length_escaped;
+use crate::stuffing::BROKEN;
+use crate::stuffing::unstuff;
+use refusals::BAD_HEADER;
+use refusals::BAD_LENGTH;
+use refusals::BAD_STUFFING;
+use refusals::OTHER_CHECK;
+use refusals::SHORT_OUTPUT;
+ghost use mathlib.Core.Path.{_≡_};
+ghost use Prim.Native.Nat.{_≤_};
+ghost use lib.ListN.{length};
+ghost use Rattle.ash.specs.Stuffing.{payloadMax, unstuff};
+ghost use Rattle.ash.specs.Check.{checkOver};
+ghost use Rattle.ash.specs.Reading.{flagFirst, compared, checked, readSized, readWhole, readFrame};
+ghost use Rattle.ash.specs.Answers.{ReadsAs};
+
+// What the bytes turned out to be. The payload's `length` bytes stand at the start of the output.
+pub enum FrameRead {
+    Frame { control: u8, length: usize },
+    Refused(u8),
+}
+
+// Reads one frame and puts its payload at the start of `out`. A refusal leaves `out` as it was.
+pub fn read_frame(bytes: &[u8], out: &mut [u8]) -> FrameRead
+    ensures { λ r. ⌜ ReadsAs (readFrame (length (now (out .entry))) (now (bytes .entry))) (now (out .entry)) r (now (out .exit)) ⌝ }
+{
+    if out.len() < PAYLOAD_MAX {
+        return FrameRead::Refused(SHORT_OUTPUT);
+    }
+    if !flag_first(bytes) {
+        return FrameRead::Refused(BAD_HEADER);
+    }
+    if bytes.len() < FRAME_MIN {
+        return FrameRead::Refused(BAD_LENGTH);
+    }
+    read_whole(bytes, out)
+}
+
+// Whether the first byte is a flag.
+fn flag_first(bytes: &[u8]) -> bool
+    ensures { λ r. ⌜ r ≡ flagFirst (now (bytes .entry)) ⌝ }
+{
+    if bytes.len() == 0 {
+        return false;
+    }
+    bytes[0] == FLAG
+}
+
+// Reads a frame by its header.
+fn read_whole(bytes: &[u8], out: &mut [u8]) -> FrameRead
+    requires { ⌜ 7 ≤ length (now bytes) ⌝ }
+    ensures { λ r. ⌜ ReadsAs (readWhole (now (bytes .entry))) (now (out .entry)) r (now (out .exit)) ⌝ }
+{
+    let escape = bytes[1];
+    let control = bytes[2];
+    let length = bytes[3];
+    if !good_header(escape, control, length) {
+        return FrameRead::Refused(BAD_HEADER);
+    }
+    let control_byte = unescape(control_escaped(escape), control);
+    let length_byte = unescape(length_escaped(escape), length);
+    read_sized(control_byte, length_byte, bytes, out)
+}
+
+// Reads a frame of which the header says these control and length bytes.
+fn read_sized(control: u8, length: u8, bytes: &[u8], out: &mut [u8]) -> FrameRead
+    ensures { λ r. ⌜ ReadsAs (readSized control length (now (bytes .entry))) (now (out .entry)) r (now (out .exit)) ⌝ }
+{
+    let size = length as usize;
+    if PAYLOAD_MAX < size {
+        return FrameRead::Refused(BAD_LENGTH);
+    }
+    if bytes.len() != size + FRAME_MIN {
+        return FrameRead::Refused(BAD_LENGTH);
+    }
+    let end = size + HEADER_SIZE;
+    read_payload(control, &bytes[HEADER_SIZE..end], &bytes[end..], out)
+}
+
+// Reads a payload, as it was sent, by its check bytes.
+fn read_payload(control: u8, sent: &[u8], check: &[u8], out: &mut [u8]) -> FrameRead
+    requires { ⌜ length (now sent) ≤ payloadMax ⌝ }
+    ensures { λ r. ⌜ ReadsAs (checked control (now (check .entry)) (unstuff (now (sent .entry)))) (now (out .entry)) r (now (out .exit)) ⌝ }
+{
+    let mut payload = [0u8; 57];
+    let length = unstuff(sent, &mut payload);
+    if length == BROKEN {
+        return FrameRead::Refused(BAD_STUFFING);
+    }
+    hand_out(control, sent.len() as u8, &payload[..length], check, out)
+}
+
+// Puts a payload at the start of `out`, unless the check bytes are other than the writer's.
+fn hand_out(control: u8, size: u8, payload: &[u8], check: &[u8], out: &mut [u8]) -> FrameRead
+    ensures { λ r. ⌜ ReadsAs (compared control (now (check .entry)) (checkOver control size (now (payload .entry))) (now (payload .entry))) (now (out .entry)) r (now (out .exit)) ⌝ }
+{
+    let writers = check_bytes(control, size, payload);
+    if !slices::same(check, &writers) {
+        return FrameRead::Refused(OTHER_CHECK);
+    }
+    slices::put(out, 0, payload);
+    FrameRead::Frame {
+        control,
+        length: payload.len(),
+    }
+}

@@ -1,9 +1,10 @@
 -- The known answers hold: both columns of the table compute to the same.
 use mathlib.Core.Path.{_≡_, refl}
 use mathlib.Core.List.{map}
+use Rattle.slices.specs.Each.{each}
 use Rattle.slices.specs.Same.{sameBytes}
 use Rattle.crc.specs.Crc.{shiftBit, shiftBits, addByte, crcOf}
-use Rattle.frame.specs.Stuffing.{stuff, unstuffFrom, unstuff}
+use Rattle.frame.specs.Stuffing.{unstuffFrom, unstuff}
 use Rattle.frame.specs.Content.{contentOf, judged}
 use Rattle.frame.specs.Writing.{framed}
 use Rattle.frame.specs.Reading.{readRun}
@@ -25,5 +26,5 @@ abbrev answer : Case → Result
 answer c = c .answer
 
 pub known-answers : map computed table ≡ map answer table
-unfolding crcOf addByte shiftBits shiftBit stuff contentOf framed unstuffFrom unstuff judged readRun turn taken frameOf step after moreAt updated readingOf ifWatched verdictOf withName withValue valueOfItem taskOf taskOfItems valueOf numberOf placeFrom sameBytes packetOf isData withItems itemsOf ifEofsEmpty itemsFilling itemsUpTo inFront eofsEmpty emptyIfEof countOf firstOf behindOf headOf validName between isLetter isNameByte allNameBytes
+unfolding crcOf addByte shiftBits shiftBit each contentOf framed unstuffFrom unstuff judged readRun turn taken frameOf step after moreAt updated readingOf ifWatched verdictOf withName withValue valueOfItem taskOf taskOfItems valueOf numberOf placeFrom sameBytes packetOf isData withItems itemsOf ifEofsEmpty itemsFilling itemsUpTo inFront eofsEmpty emptyIfEof countOf firstOf behindOf headOf validName between isLetter isNameByte allNameBytes
 known-answers = refl

@@ -1,6 +1,6 @@
 -- The check goes over the header and on over the payload, and is spread byte by byte.
-use mathlib.Core.Path.{_≡_, refl, sym, ap, _∙_}
-use mathlib.Core.List.{List, [], _∷_, _++_}
+use mathlib.Core.Path.{_≡_, sym, ap}
+use mathlib.Core.List.{List, [], _∷_}
 use Prim.Native.Nat.{ℕ, _+_, _*_, _/_, _%_}
 use Rattle.crc.specs.Crc.{crcOf}
 use Rattle.crc.proofs.CrcLaws.{crc-append}

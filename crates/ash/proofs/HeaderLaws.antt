@@ -1,9 +1,8 @@
 -- The tests of a header one after the other: what the first that fails settles, and what is left when none does.
-use mathlib.Core.Path.{_≡_, refl}
+use mathlib.Core.Path.{_≡_}
 use mathlib.Core.Bool.{Bool, true, false, cond}
 use Prim.Native.Nat.{ℕ, _%_, _≤_}
 use native.Mathlib.Omega.{arith}
-use lib.Dec.{eqb}
 use borrow.Author.Tests.{eq-eqb, ne-eqb}
 use Rattle.ash.specs.Reserved.{rightlyEscaped}
 use Rattle.ash.specs.Header.{controlEscaped, lengthEscaped, goodHeader}

@@ -7,3 +7,7 @@ pub mod WriteLaws
 pub mod ReadLaws
 pub mod StuffTheorems
 pub mod PayloadLaws
+pub mod FrameTheorems
+pub mod OnlyWritten
+pub mod FreeFrames
+pub mod KnownFrames

@@ -1,5 +1,5 @@
 -- A payload that was unstuffed is no longer than the bytes that were sent, so an array for 57 bytes holds all of it.
-use mathlib.Core.Path.{_≡_, refl, sym, ap, _∙_}
+use mathlib.Core.Path.{_≡_, refl, ap}
 use mathlib.Core.List.{List}
 use Prim.Native.Nat.{ℕ, suc, _≤_}
 use native.Mathlib.Omega.{arith}

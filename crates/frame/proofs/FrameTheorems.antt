@@ -13,6 +13,7 @@ use borrow.Author.Tests.{eq-eqb, le-leb, ltb-false}
 use Rattle.refusals.specs.Numbers.{badFraming, shortOutput, longPayload}
 use Rattle.crc.specs.Crc.{linkStart, crcOf, checkBytes}
 use Rattle.crc.proofs.CrcLaws.{crc-checked}
+use Rattle.slices.specs.Each.{each}
 use Rattle.frame.specs.Stuffing as stuffing
 use Rattle.frame.specs.Stuffing.{flagByte, contentMax, stuffByte, stuff, escapes, unstuff}
 use Rattle.frame.specs.Content as content
@@ -43,7 +44,7 @@ byte-without-flag b rest = cases (eqb b 0x7e) (eqb b 0x7d) refl
     cases false false e = rw e (omega arith)
 
 stuffed-without-flag : (c rest : List ℕ) → firstFlag (stuff c ++ rest) ≡ length (stuff c) + firstFlag rest
-unfolding stuff
+unfolding each
 stuffed-without-flag [] rest = omega arith
 stuffed-without-flag (b ∷ bs) rest =
     let first = byte-without-flag b (stuff bs ++ rest) in

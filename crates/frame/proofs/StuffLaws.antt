@@ -1,14 +1,13 @@
--- Stuffing goes byte by byte: each byte becomes one or two, and the strings are joined.
-use mathlib.Core.Path.{_≡_, refl, sym, ap, _∙_}
+-- A byte of content becomes two bytes where it is a flag or an escape byte, else it stays one.
+use mathlib.Core.Path.{_≡_, refl}
 use mathlib.Core.Bool.{Bool, true, false, cond}
-use mathlib.Core.List.{List, [], _∷_, _++_, append-assoc}
-use Prim.Native.Nat.{ℕ, _+_, _*_, _≤_, _<_}
-use native.Mathlib.Numerals.{add-one}
+use mathlib.Core.List.{List, [], _∷_}
+use Prim.Native.Nat.{ℕ, _*_, _≤_}
 use native.Mathlib.Omega.{arith}
 use lib.Dec.{eqb}
-use lib.ListN.{length, drop, getD, length-append, drop-of-length-le}
-use lib.Seq.{drop-cons}
+use lib.ListN.{length}
 use borrow.Author.Tests.{eq-eqb, ne-eqb, eqb-false}
+use Rattle.slices.proofs.EachLaws.{length-each}
 use Rattle.frame.specs.Stuffing.{stuffByte, stuff}
 
 pub stuff-flag : (b : ℕ) → b ≡ 0x7e → stuffByte b ≡ 0x7d ∷ 0x5e ∷ []
@@ -32,7 +31,7 @@ two-bytes b low high = cases (eqb b 0x7e) refl
         rw is
 
 -- no byte becomes more than two
-pub size-at-most : (b : ℕ) → length (stuffByte b) ≤ 2
+size-at-most : (b : ℕ) → length (stuffByte b) ≤ 2
 size-at-most b = cases (eqb b 0x7e) (eqb b 0x7d)
   where
     cases : (t u : Bool) → length (cond t (0x7d ∷ 0x5e ∷ []) (cond u (0x7d ∷ 0x5d ∷ []) (b ∷ []))) ≤ 2
@@ -41,31 +40,4 @@ size-at-most b = cases (eqb b 0x7e) (eqb b 0x7d)
     cases false false = omega arith
 
 pub length-stuff : (s : List ℕ) → length (stuff s) ≤ 2 * length s
-unfolding stuff
-length-stuff [] = omega arith
-length-stuff (b ∷ bs) =
-    let one = size-at-most b in
-    let more = length-stuff bs in
-    rw length-append (omega arith)
-
-pub stuff-append : (xs ys : List ℕ) → stuff (xs ++ ys) ≡ stuff xs ++ stuff ys
-unfolding stuff
-stuff-append [] ys = refl
-stuff-append (x ∷ xs) ys = rw (stuff-append xs ys) (sym (append-assoc (stuffByte x) (stuff xs) (stuff ys)))
-
--- the bytes from a place on: the byte there, then the rest
-pub stuff-from : (s : List ℕ) (i : ℕ) → i < length s → stuff (drop i s) ≡ stuffByte (getD s i 0) ++ stuff (drop (i + 1) s)
-unfolding stuff
-stuff-from s i h = rw (add-one, drop-cons s i 0 h)
-
-pub stuff-none : (s : List ℕ) (i : ℕ) → length s ≤ i → stuff (drop i s) ≡ []
-unfolding stuff
-stuff-none s i h = rw (drop-of-length-le s h)
-
--- and their number
-pub size-from : (s : List ℕ) (i : ℕ) → i < length s
-    → length (stuff (drop i s)) ≡ length (stuffByte (getD s i 0)) + length (stuff (drop (i + 1) s))
-size-from s i h = ap length (stuff-from s i h) ∙ length-append (stuffByte (getD s i 0)) (stuff (drop (i + 1) s))
-
-pub size-none : (s : List ℕ) (i : ℕ) → length s ≤ i → length (stuff (drop i s)) ≡ 0
-size-none s i h = rw (stuff-none s i h)
+length-stuff s = length-each stuffByte size-at-most s

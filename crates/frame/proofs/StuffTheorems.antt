@@ -9,6 +9,7 @@ use lib.Dec.{eqb, ltb, leb}
 use lib.ListN.{length, length-append}
 use borrow.Author.Tests.{eqb-true, ltb-true, ltb-false, le-leb, lt-leb}
 use Rattle.refusals.specs.Numbers.{longContent}
+use Rattle.slices.specs.Each.{each}
 use Rattle.frame.specs.Stuffing.{plain, stands-for, Unstuffed, content, refused, joined, taken, contentMax, stuffByte, stuff, escapes, unstuffFrom, unstuff}
 
 -- a stuffed byte stands for itself
@@ -46,7 +47,7 @@ one-more held b bs h = cases (ltb held contentMax) refl
         rw (lt-leb (held + suc (length bs)) contentMax past)
 
 unstuff-stuff-from : (held : ℕ) (c : List ℕ) → held ≤ contentMax → unstuffFrom plain held (stuff c) ≡ withinLimit held c
-unfolding stuff unstuffFrom
+unfolding each unstuffFrom
 unstuff-stuff-from held [] h =
     let room : held + 0 ≤ contentMax = omega arith in
     rw (le-leb (held + 0) contentMax room)
@@ -68,7 +69,7 @@ unstuff-stuff c = unstuff-stuff-from 0 c (omega arith) ∙ rw (zero-add (length 
 
 -- THEOREM. Stuffing adds one byte for each 7d and 7e.
 pub stuffed-length : (c : List ℕ) → length (stuff c) ≡ length c + escapes c
-unfolding stuff escapes
+unfolding each escapes
 stuffed-length [] = refl
 stuffed-length (b ∷ bs) =
     length-append (stuffByte b) (stuff bs) ∙ omega (arith, one-byte (eqb b 0x7e) (eqb b 0x7d), stuffed-length bs)

@@ -7,15 +7,15 @@ use lib.ListN.{length, set, length-append}
 use borrow.Author.Tests.{lt-ltb, le-ltb}
 use Rattle.refusals.specs.Numbers.{shortOutput, longPayload}
 use Rattle.slices.specs.Put.{putAt}
+use Rattle.slices.proofs.EachLaws.{each-append}
 use Rattle.slices.proofs.PutLaws.{put-append}
 use Rattle.crc.specs.Crc.{linkStart, crcOf, checkBytes}
 use Rattle.crc.proofs.CrcLaws.{crc-append}
-use Rattle.frame.specs.Stuffing.{flagByte, stuff}
+use Rattle.frame.specs.Stuffing.{flagByte, stuffByte, stuff}
 use Rattle.frame.specs.Content.{payloadMax, contentOf}
 use Rattle.frame.specs.Writing.{framed, Written, written, refused, writeContent, writeFrame}
 use Rattle.frame.specs.Answers.{WritesAs}
 use Rattle.frame.specs.declared.writer.Written.the-variants as answer
-use Rattle.frame.proofs.StuffLaws.{stuff-append}
 
 -- the check over the whole body goes on from that of its first two bytes
 pub content-parts : (kind sequence : ℕ) (payload : List ℕ)
@@ -26,7 +26,7 @@ content-parts kind sequence payload =
 
 -- the stuffed parts of content in three parts
 stuff-parts : (a b c : List ℕ) → stuff (a ++ b ++ c) ≡ stuff a ++ stuff b ++ stuff c
-stuff-parts a b c = stuff-append (a ++ b) c ∙ ap (λ (l : List ℕ). l ++ stuff c) (stuff-append a b)
+stuff-parts a b c = each-append stuffByte (a ++ b) c ∙ ap (λ (l : List ℕ). l ++ stuff c) (each-append stuffByte a b)
 
 -- two flags beside the stuffed content
 pub length-framed : (content : List ℕ) → length (framed content) ≡ 2 + length (stuff content)

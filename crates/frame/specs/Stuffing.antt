@@ -1,9 +1,10 @@
 -- 01, Frames: the bytes of a frame on the line. Each 7e becomes 7d 5e, each 7d becomes 7d 5d, no other byte is escaped.
 use Prim.Native.Nat.{ℕ, suc, _+_}
 use mathlib.Core.Bool.{cond}
-use mathlib.Core.List.{List, [], _∷_, _++_}
+use mathlib.Core.List.{List, [], _∷_}
 use lib.Dec.{eqb, ltb}
 use Rattle.refusals.specs.Numbers.{badFraming, longContent}
+use Rattle.slices.specs.Each.{each}
 
 abbrev pub flagByte : ℕ
 flagByte = 0x7e
@@ -18,9 +19,8 @@ contentMax = 387
 abbrev pub stuffByte : ℕ → List ℕ
 stuffByte b = cond (eqb b 0x7e) (0x7d ∷ 0x5e ∷ []) (cond (eqb b 0x7d) (0x7d ∷ 0x5d ∷ []) (b ∷ []))
 
-unfoldable pub stuff : List ℕ → List ℕ
-stuff [] = []
-stuff (b ∷ bs) = stuffByte b ++ stuff bs
+abbrev pub stuff : List ℕ → List ℕ
+stuff content = each stuffByte content
 
 -- how many bytes of a string are escaped
 unfoldable pub escapes : List ℕ → ℕ

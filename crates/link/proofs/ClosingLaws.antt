@@ -9,6 +9,7 @@ use lib.Dec.{eqb}
 use lib.ListN.{length}
 use borrow.Author.Tests.{eq-eqb, ne-eqb}
 use Rattle.refusals.specs.Numbers.{unknownType}
+use Rattle.slices.specs.Each.{each}
 use Rattle.crc.specs.Crc.{linkStart, crcOf}
 use Rattle.frame.specs.Stuffing.{stuff}
 use Rattle.frame.specs.Content.{frame, refused, contentOf, judged}
@@ -23,7 +24,7 @@ use Rattle.link.specs.Closing.{dataType, acknowledgementType, replyRoom,
 
 -- of an acknowledgement's four bytes of content the type is not escaped
 stuffed-acknowledgement : (q h l : ℕ) → length (stuff (acknowledgementType ∷ q ∷ h ∷ l ∷ [])) ≤ 7
-unfolding stuff
+unfolding each
 stuffed-acknowledgement q h l =
     let three = length-stuff (q ∷ h ∷ l ∷ []) in
     omega (arith, three)

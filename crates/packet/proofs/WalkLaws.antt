@@ -7,8 +7,9 @@ use Prim.Native.Nat.{ℕ, suc, _+_, _-_, _*_, _^_, _≤_, _<_}
 use native.Mathlib.Omega.{arith}
 use lib.Dec.{leb, eqb}
 use lib.ListN.{length, getD, take, drop, length-drop}
-use lib.Seq.{length-take-le, take-all}
+use lib.Seq.{length-take-le}
 use borrow.Author.Tests.{le-leb, leb-true}
+use Rattle.slices.proofs.PartLaws.{part-rest}
 use Rattle.slices.proofs.TestLaws.{Both, both}
 use Rattle.packet.specs.Items.{Item, inFront, eofKind, emptyIfEof, itemsOf, countOf}
 use Rattle.packet.specs.Answers.{placed, past, headIn, findIn, behindIn}
@@ -71,10 +72,6 @@ broken (kind ∷ size ∷ rest) ne h = cases (leb size (length rest)) refl
         let long : leb (size + 2) (suc (suc (length rest))) ≡ true = le-leb (size + 2) (suc (suc (length rest))) (omega arith) in
         let test : cond (eqb kind eofKind) (eqb size 0) true ≡ false = rw (more, long) at h in
         rw (good-rule kind size rest, e, eof-test kind size rest fits, test)
-
--- the part of the bytes from a place to their end is what is left when that many are dropped
-pub part-rest : (bytes : List ℕ) (n : ℕ) → take (length bytes - n) (drop n bytes) ≡ drop n bytes
-part-rest bytes n = take-all (length bytes - n) (drop n bytes) (simp length-drop (omega arith))
 
 -- an item in front of items that were read, or could not be
 front-told : (at wanted : ℕ) (item : Item) (read : Option (List Item)) (t : Bool) → eqb (item .kind) wanted ≡ t → withItem (placed at item) t (tallyOf (past at item) wanted read) ≡ tallyOf at wanted (inFront item read)

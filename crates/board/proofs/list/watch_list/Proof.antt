@@ -11,7 +11,7 @@ use Rattle.board.specs.declared.list.Watched.{Watched}
 use Rattle.board.specs.WatchList.{fieldOf, watchBoard}
 use Rattle.board.proofs.WatchLaws.{good-none}
 use Rattle.board.proofs.FieldLaws.{Reached, nameAt, field-name, field-none, field-size, reached-bad, reached-refused, reached-next, reached-end}
-use Rattle.packet.proofs.WalkLaws.{part-rest}
+use Rattle.slices.proofs.PartLaws.{part-rest}
 use Rattle.board.proofs.list.watch_list.Statement.{statement}
 use Rattle.board.proofs.list.watch_list.Tie as tie
 

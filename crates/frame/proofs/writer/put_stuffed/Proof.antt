@@ -5,9 +5,9 @@ use Prim.Native.Nat.{_+_, _-_, _≤_, _<_}
 use native.Mathlib.Omega.{arith}
 use lib.ListN.{length, drop}
 use Rattle.slices.specs.Put.{putAt}
+use Rattle.slices.proofs.EachLaws.{each-from, each-none, size-from, size-none}
 use Rattle.slices.proofs.PutLaws.{put-append}
-use Rattle.frame.specs.Stuffing.{stuff}
-use Rattle.frame.proofs.StuffLaws.{stuff-from, stuff-none, size-from, size-none}
+use Rattle.frame.specs.Stuffing.{stuffByte, stuff}
 use Rattle.frame.proofs.writer.put_stuffed.Statement.{statement}
 use Rattle.frame.proofs.writer.put_stuffed.Tie as tie
 
@@ -33,7 +33,7 @@ put-byte-requires c κs =
     let start = c .before .before .before .before .before .before in
     let content = start .args .content .now in
     let more : loop .i < length content = omega arith in
-    omega (arith, size-from content (loop .i) more, start .pre)
+    omega (arith, size-from stuffByte content (loop .i) more, start .pre)
 
 add-i : tie.Need-add-i Inv-loop μ-loop
 add-i c = omega arith
@@ -47,9 +47,9 @@ loop-again c =
     let loop = c .before .before .before .before .before .before .loop in
     let content = c .before .before .before .before .before .before .before .before .before .args .content .now in
     let more : loop .i < length content = omega arith in
-    let rest = stuff-from content (loop .i) more in (
+    let rest = each-from stuffByte content (loop .i) more in (
       omega arith,
-      omega (arith, size-from content (loop .i) more, put .ensures .0, loop .inv .1),
+      omega (arith, size-from stuffByte content (loop .i) more, put .ensures .0, loop .inv .1),
       put .kept .0 ∙ loop .inv .2,
       rw (put .ensures .0, put .ensures .1, put-append, ← rest) (loop .inv .3),
     )
@@ -61,8 +61,8 @@ returns : tie.Need-returns Inv-loop μ-loop
 returns c =
     let loop = c .before .loop in
     let content = c .before .before .before .before .args .content .now in
-    let none = stuff-none content (loop .i) (c .loop-test .left) in
-    (omega (arith, size-none content (loop .i) (c .loop-test .left), loop .inv .1), rw none at (loop .inv .3))
+    let none = each-none stuffByte content (loop .i) (c .loop-test .left) in
+    (omega (arith, size-none stuffByte content (loop .i) (c .loop-test .left), loop .inv .1), rw none at (loop .inv .3))
 
 pub put-stuffed-spec : {M : Type 1} → statement M
 put-stuffed-spec =

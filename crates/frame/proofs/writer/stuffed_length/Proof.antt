@@ -6,8 +6,9 @@ use native.Mathlib.Nat.{zero-add}
 use native.Mathlib.Omega.{arith}
 use borrow.Author.Needs.{needs}
 use lib.ListN.{length, drop}
-use Rattle.frame.specs.Stuffing.{stuff}
-use Rattle.frame.proofs.StuffLaws.{length-stuff, size-from, size-none}
+use Rattle.slices.proofs.EachLaws.{size-from, size-none}
+use Rattle.frame.specs.Stuffing.{stuffByte, stuff}
+use Rattle.frame.proofs.StuffLaws.{length-stuff}
 use Rattle.frame.proofs.writer.stuffed_length.Statement.{statement}
 use Rattle.frame.proofs.writer.stuffed_length.Tie as tie
 
@@ -31,7 +32,7 @@ add-total c =
     let loop = c .before .before .before .loop in
     let content = c .before .before .before .before .before .args .content .now in
     let more : loop .i < length content = omega arith in
-    omega (arith, size-from content (loop .i) more, length-stuff content, c .stuffed-size .ensures)
+    omega (arith, size-from stuffByte content (loop .i) more, length-stuff content, c .stuffed-size .ensures)
 
 add-i : tie.Need-add-i Inv-loop μ-loop
 add-i c = omega arith
@@ -44,13 +45,13 @@ loop-again c =
     let loop = c .before .before .before .loop in
     let content = c .before .before .before .before .before .args .content .now in
     let more : loop .i < length content = omega arith in
-    (omega arith, omega (arith, size-from content (loop .i) more, c .stuffed-size .ensures))
+    (omega arith, omega (arith, size-from stuffByte content (loop .i) more, c .stuffed-size .ensures))
 
 returns : tie.Need-returns Inv-loop μ-loop
 returns c =
     let loop = c .before .loop in
     let content = c .before .before .before .args .content .now in
-    omega (arith, size-none content (loop .i) (c .loop-test .left))
+    omega (arith, size-none stuffByte content (loop .i) (c .loop-test .left))
 
 pub stuffed-length-spec : {M : Type 1} → statement M
 stuffed-length-spec =

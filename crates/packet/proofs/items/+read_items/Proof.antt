@@ -11,7 +11,8 @@ use lib.ListN.{length, getD, length-drop}
 use Rattle.packet.specs.declared.items.Found.the-variants.{At}
 use Rattle.packet.specs.declared.items.Tally.{Tally}
 use Rattle.packet.specs.Walk.{Countable, beginsWithItem, withItem}
-use Rattle.packet.proofs.WalkLaws.{begins-room, part, part-rest, walk-end, walk-cut, walk-item, walk-countable}
+use Rattle.slices.proofs.PartLaws.{part-rest}
+use Rattle.packet.proofs.WalkLaws.{begins-room, part, walk-end, walk-cut, walk-item, walk-countable}
 use borrow.Fn.Kinds.{In}
 use borrow.Fn.PlainCycle.{Measures, is, falls, and}
 use Rattle.packet.proofs.items.read_items.Reads as items

@@ -6,7 +6,7 @@ use borrow.Author.Tests.{not-true, not-false}
 use Rattle.packet.specs.Packet.{isData}
 use Rattle.packet.specs.Walk.{packetTally}
 use Rattle.packet.proofs.PacketLaws.{data-length}
-use Rattle.packet.proofs.WalkLaws.{part-rest}
+use Rattle.slices.proofs.PartLaws.{part-rest}
 use Rattle.packet.proofs.reading.tally_packet.Statement.{statement}
 use Rattle.packet.proofs.reading.tally_packet.Tie as tie
 

@@ -1,0 +1,189 @@
+-- A frame is taken only if the writer writes it: the header's bits say exactly what is escaped, what was unstuffed is stuffed to just the
+-- bytes sent, and the check bytes are compared.
+use mathlib.Core.Path.{_≡_, refl, sym, ap, ap₂, _∙_}
+use mathlib.Core.Bool.{Bool, true, false, cond, _&&_}
+use mathlib.Core.List.{List, [], _∷_, _++_, append-assoc}
+use Prim.Native.Nat.{ℕ, suc, _+_, _*_, _/_, _%_, _≤_, _<_}
+use native.Mathlib.Omega.{arith}
+use lib.Dec.{eqb, ltb, leb}
+use lib.ListN.{length, take, drop, getD, take-append-drop}
+use lib.Seq.{length-take-le}
+use borrow.Author.Tests.{eqb-true, eqb-false, leb-true, ltb-false, not-true}
+use Rattle.refusals.specs.Numbers.{shortOutput, badHeader, badLength, otherCheck}
+use Rattle.slices.specs.Same.{sameBytes}
+use Rattle.slices.proofs.SameLaws.{same-equal}
+use Rattle.slices.proofs.TestLaws.{both}
+use Rattle.ash.specs.Reserved.{flagByte, reserved, unescaped, rightlyEscaped}
+use Rattle.ash.specs.Stuffing.{payloadMax, stuff, Unstuffed, payload, broken, unstuff}
+use Rattle.ash.specs.Header.{sentByte, sentHeader, controlEscaped, lengthEscaped, goodHeader}
+use Rattle.ash.specs.Check.{checkBytes}
+use Rattle.ash.specs.Writing.{frameOf, written, writeFrame}
+use Rattle.ash.specs.Reading.{Read, frame, refused, checked, readSized, readWhole, flagFirst, readFrame}
+use Rattle.ash.proofs.ReservedLaws.{flipped-twice}
+use Rattle.ash.proofs.WriteLaws.{frame-length, room-enough}
+use Rattle.ash.proofs.StuffTheorems.{stuff-unstuff}
+
+-- a header byte that is rightly escaped is sent so by the writer
+rightly-sent : (t : Bool) (s : ℕ) → rightlyEscaped t s ≡ true → (reserved (unescaped t s) ≡ t) × (sentByte (unescaped t s) ≡ s)
+rightly-sent true s e = (e, rw e (flipped-twice s))
+rightly-sent false s e =
+    let free = not-true (reserved s) e in
+    (free, rw free)
+
+-- a bit as what it stands for
+bit-marks : (n mark : ℕ) → cond (eqb (n % 2) 1) mark 0 ≡ n % 2 * mark
+bit-marks n mark = cases (eqb (n % 2) 1) refl
+  where
+    cases : (t : Bool) → eqb (n % 2) 1 ≡ t → cond t mark 0 ≡ n % 2 * mark
+    cases true e = rw (eqb-true (n % 2) 1 e) (omega arith)
+    cases false e =
+        let other = eqb-false (n % 2) 1 e in
+        let none : n % 2 ≡ 0 = omega arith in
+        rw none (omega arith)
+
+-- a header escape byte without reserved bits is the sum of its two bits
+sum-of-bits : (escape : ℕ) → escape < 0x100 → escape % 0x40 ≡ 0
+    → cond (controlEscaped escape) 0x80 0 + cond (lengthEscaped escape) 0x40 0 ≡ escape
+sum-of-bits escape h e = rw (bit-marks (escape / 0x80) 0x80, bit-marks (escape / 0x40) 0x40) (omega arith)
+
+-- what a good header stands for is sent by the writer as that header
+good-sent : (escape control size : ℕ) → escape < 0x100 → goodHeader escape control size ≡ true
+    → sentHeader (unescaped (controlEscaped escape) control) (unescaped (lengthEscaped escape) size) ≡ flagByte ∷ escape ∷ control ∷ size ∷ []
+unfolding goodHeader sentHeader
+good-sent escape control size h e =
+    let first = both (eqb (escape % 0x40) 0) (rightlyEscaped (controlEscaped escape) control && rightlyEscaped (lengthEscaped escape) size) e in
+    let others = both (rightlyEscaped (controlEscaped escape) control) (rightlyEscaped (lengthEscaped escape) size) (first .second) in
+    let c = rightly-sent (controlEscaped escape) control (others .first) in
+    let n = rightly-sent (lengthEscaped escape) size (others .second) in
+    rw (c .1, n .1, c .0, n .0) (ap (λ (x : ℕ). flagByte ∷ x ∷ control ∷ size ∷ []) (sum-of-bits escape h (eqb-true (escape % 0x40) 0 (first .first))))
+
+-- a frame that was taken had every test passed
+record Taken (control : ℕ) (p bytes : List ℕ) : Type 0 where
+  short : length (stuff p) ≤ payloadMax
+  is : bytes ≡ frameOf control p
+
+-- what follows header and payload, once all is known of them
+module _ (control size : ℕ) (p rest : List ℕ) (header : List ℕ) (unstuffed : unstuff (take size rest) ≡ payload p)
+    (enough : size ≤ length rest) (sent : sentHeader control size ≡ header) (check : drop size rest ≡ checkBytes control p) where
+  sized : length (stuff p) ≡ size
+  sized = ap length (stuff-unstuff (take size rest) p unstuffed) ∙ length-take-le size rest enough
+
+  assembled : header ++ rest ≡ frameOf control p
+  unfolding frameOf
+  assembled =
+      let parts : stuff p ++ checkBytes control p ≡ rest = ap₂ (λ (a b : List ℕ). a ++ b) (stuff-unstuff (take size rest) p unstuffed) (sym check) ∙ take-append-drop size rest in
+      let front : sentHeader control (length (stuff p)) ≡ header = ap (sentHeader control) sized ∙ sent in
+      sym (ap (λ (h : List ℕ). h ++ stuff p ++ checkBytes control p) front ∙ append-assoc header (stuff p) (checkBytes control p) ∙ ap (λ (l : List ℕ). header ++ l) parts)
+
+-- what a payload and its check bytes were taken as
+record Checked (control : ℕ) (check : List ℕ) (found : Unstuffed) (control₁ : ℕ) (p : List ℕ) : Type 0 where
+  same-control : control ≡ control₁
+  unstuffed : found ≡ payload p
+  same-bytes : check ≡ checkBytes control₁ p
+
+checked-frame : (control : ℕ) (check : List ℕ) (found : Unstuffed) (control₁ : ℕ) (p : List ℕ) → checked control check found ≡ frame control₁ p
+    → Checked control check found control₁ p
+checked-frame control check broken control₁ p e = let z : _≡_ {A = ℕ} 0 1 = cc in absurd (omega arith)
+checked-frame control check (payload q) control₁ p e = cases (sameBytes check (checkBytes control q)) refl e
+  where
+    cases : (t : Bool) → sameBytes check (checkBytes control q) ≡ t → cond t (frame control q) (refused otherCheck) ≡ frame control₁ p
+        → Checked control check (payload q) control₁ p
+    cases false f e = let z : _≡_ {A = ℕ} 0 1 = cc in absurd (omega arith)
+    cases true f e =
+        let c : control ≡ control₁ = cc in
+        let is : q ≡ p = cc in
+        record { same-control = c; unstuffed = ap payload is; same-bytes = same-equal check (checkBytes control q) f ∙ ap₂ checkBytes c is }
+
+-- what a length was taken for
+record Sized (control size : ℕ) (bytes : List ℕ) (control₁ : ℕ) (p : List ℕ) : Type 0 where
+  small : size ≤ payloadMax
+  whole : length bytes ≡ size + 7
+  parts : Checked control (drop (size + 4) bytes) (unstuff (take size (drop 4 bytes))) control₁ p
+
+sized-frame : (control size : ℕ) (bytes : List ℕ) (control₁ : ℕ) (p : List ℕ) → readSized control size bytes ≡ frame control₁ p
+    → Sized control size bytes control₁ p
+unfolding readSized
+sized-frame control size bytes control₁ p e = cases (leb size payloadMax && eqb (length bytes) (size + 7)) refl e
+  where
+    found : Read
+    found = checked control (drop (size + 4) bytes) (unstuff (take size (drop 4 bytes)))
+
+    cases : (t : Bool) → (leb size payloadMax && eqb (length bytes) (size + 7)) ≡ t → cond t found (refused badLength) ≡ frame control₁ p
+        → Sized control size bytes control₁ p
+    cases false f e = let z : _≡_ {A = ℕ} 0 1 = cc in absurd (omega arith)
+    cases true f e =
+        let two = both (leb size payloadMax) (eqb (length bytes) (size + 7)) f in
+        record {
+          small = leb-true size payloadMax (two .first);
+          whole = eqb-true (length bytes) (size + 7) (two .second);
+          parts = checked-frame control (drop (size + 4) bytes) (unstuff (take size (drop 4 bytes))) control₁ p e;
+        }
+
+-- a whole frame behind its flag
+module _ (escape first second : ℕ) (rest : List ℕ) where
+  abbrev meant : ℕ
+  meant = unescaped (controlEscaped escape) first
+
+  abbrev size-meant : ℕ
+  size-meant = unescaped (lengthEscaped escape) second
+
+  abbrev bytes : List ℕ
+  bytes = flagByte ∷ escape ∷ first ∷ second ∷ rest
+
+  behind-header : (n : ℕ) → drop n rest ≡ drop (n + 4) bytes
+  behind-header n = let same : n + 4 ≡ suc (suc (suc (suc n))) = omega arith in rw same
+
+  whole-frame : (control : ℕ) (p : List ℕ) → escape < 0x100 → readWhole bytes ≡ frame control p → Taken control p bytes
+  unfolding readWhole
+  whole-frame control p h e = cases (goodHeader escape first second) refl e
+    where
+      cases : (t : Bool) → goodHeader escape first second ≡ t → cond t (readSized meant size-meant bytes) (refused badHeader) ≡ frame control p
+          → Taken control p bytes
+      cases false f e = let z : _≡_ {A = ℕ} 0 1 = cc in absurd (omega arith)
+      cases true f e =
+          let s = sized-frame meant size-meant bytes control p e in
+          let header : sentHeader control size-meant ≡ flagByte ∷ escape ∷ first ∷ second ∷ [] = rw (← s .parts .same-control) (good-sent escape first second h f) in
+          let enough : size-meant ≤ length rest = omega (arith, s .whole) in
+          let check : drop size-meant rest ≡ checkBytes control p = behind-header size-meant ∙ s .parts .same-bytes in
+          let fits = sized control size-meant p rest (flagByte ∷ escape ∷ first ∷ second ∷ []) (s .parts .unstuffed) enough header check in
+          record {
+            short = omega (arith, fits, s .small);
+            is = assembled control size-meant p rest (flagByte ∷ escape ∷ first ∷ second ∷ []) (s .parts .unstuffed) enough header check;
+          }
+
+-- a frame that was taken has a flag first and seven bytes
+record Opened (bytes : List ℕ) (found : Read) : Type 0 where
+  flag : flagFirst bytes ≡ true
+  long : 7 ≤ length bytes
+  whole : readWhole bytes ≡ found
+
+opened : (room : ℕ) (bytes : List ℕ) (control : ℕ) (p : List ℕ) → readFrame room bytes ≡ frame control p → Opened bytes (frame control p)
+unfolding readFrame
+opened room bytes control p e = cases (ltb room payloadMax) (flagFirst bytes) (ltb (length bytes) 7) refl refl e
+  where
+    cases : (t u v : Bool) → flagFirst bytes ≡ u → ltb (length bytes) 7 ≡ v
+        → cond t (refused shortOutput) (cond u (cond v (refused badLength) (readWhole bytes)) (refused badHeader)) ≡ frame control p
+        → Opened bytes (frame control p)
+    cases true u v f g e = let z : _≡_ {A = ℕ} 0 1 = cc in absurd (omega arith)
+    cases false false v f g e = let z : _≡_ {A = ℕ} 0 1 = cc in absurd (omega arith)
+    cases false true true f g e = let z : _≡_ {A = ℕ} 0 1 = cc in absurd (omega arith)
+    cases false true false f g e = record { flag = f; long = ltb-false (length bytes) 7 g; whole = e }
+
+frame-taken : (bytes : List ℕ) (control : ℕ) (p : List ℕ) → getD bytes 1 0 < 0x100 → Opened bytes (frame control p) → Taken control p bytes
+frame-taken [] control p h o = absurd (omega (arith, o .long))
+frame-taken (a ∷ []) control p h o = absurd (omega (arith, o .long))
+frame-taken (a ∷ b ∷ []) control p h o = absurd (omega (arith, o .long))
+frame-taken (a ∷ b ∷ c ∷ []) control p h o = absurd (omega (arith, o .long))
+frame-taken (a ∷ b ∷ c ∷ d ∷ rest) control p h o =
+    let flag : a ≡ flagByte = eqb-true a flagByte (o .flag) in
+    let whole : readWhole (flagByte ∷ b ∷ c ∷ d ∷ rest) ≡ frame control p = rw flag at (o .whole) in
+    rw flag (whole-frame b c d rest control p h whole)
+
+-- THEOREM. A frame is taken only if it is exactly what the writer writes for its control byte and payload. (The elements of a list are
+-- any numbers; that the header escape is a byte is therefore asked.)
+pub only-written : (room : ℕ) (bytes : List ℕ) (control : ℕ) (p : List ℕ) → getD bytes 1 0 < 0x100 → readFrame room bytes ≡ frame control p
+    → writeFrame (length bytes) control p ≡ written bytes
+only-written room bytes control p h e =
+    let t = frame-taken bytes control p h (opened room bytes control p e) in
+    let fits : 7 + length (stuff p) ≤ length bytes = omega (arith, frame-length control p, ap length (t .is)) in
+    room-enough (length bytes) control p (t .short) fits ∙ ap written (sym (t .is))

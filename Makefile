@@ -18,6 +18,7 @@
 
 ARCHIVE ?= target/staticlib/libhost.a
 REPLAY ?= target/bin/replay
+ASH ?= target/bin/ash_cases
 OUT ?= target/host
 RUSTC ?= rustc
 SIZE ?= size
@@ -35,7 +36,7 @@ BENCH_CFLAGS := -std=c99 -O3 $(WARNINGS) -Iinclude
 HEADERS := $(wildcard include/*.h host/*/*.h)
 C_TESTS := known_answers writer reader header collector
 TESTS := $(C_TESTS) serial reference differential replay_reference replay_test \
-	history_text history_text_test
+	history_text history_text_test ash_reference ash_test
 PLAIN := host/bench/plain_frame.c host/bench/plain_crc.c
 MEASURED := host/bench/workload.c $(PLAIN)
 RECEIVER ?= target/bin/receive_bench
@@ -54,8 +55,9 @@ target/staticlib/libhost.a: crates.txt $(shell find crates -type f)
 	rt staticlib host
 	touch $@
 
-target/bin/replay: crates.txt $(shell find crates -type f)
-	rt check replay
+$(addprefix target/bin/,replay ash_cases receive_bench): target/bin/%: \
+		crates.txt $(shell find crates -type f)
+	rt check $*
 	touch $@
 
 $(OUT):
@@ -116,7 +118,16 @@ $(OUT)/replay_reference: host/replay/main.rs $(wildcard host/replay/*.rs host/re
 		host/differential/random.rs | $(OUT)
 	$(RUSTC) $(RUSTFLAGS) --test -o $@ $<
 
-test: $(addprefix $(OUT)/,$(TESTS)) $(OUT)/display $(REPLAY)
+ASH_TEST := host/ash/main.rs $(wildcard host/ash/*.rs) $(addprefix host/,reference/ash.rs \
+	reference/frame.rs replay/child.rs $(addprefix differential/,random.rs seeds.rs tally.rs))
+
+$(OUT)/ash_test: $(ASH_TEST) | $(OUT)
+	$(RUSTC) $(RUSTFLAGS) -o $@ $<
+
+$(OUT)/ash_reference: $(ASH_TEST) crates/ash_cases/stdin crates/ash_cases/stdout | $(OUT)
+	$(RUSTC) $(RUSTFLAGS) --test -o $@ $<
+
+test: $(addprefix $(OUT)/,$(TESTS)) $(OUT)/display $(REPLAY) $(ASH)
 	@set -e; for test in $(C_TESTS); do $(OUT)/$$test; done
 	@$(OUT)/display examples/line.capture >$(OUT)/line.from-file
 	@diff -u examples/line.expected $(OUT)/line.from-file
@@ -132,6 +143,8 @@ test: $(addprefix $(OUT)/,$(TESTS)) $(OUT)/display $(REPLAY)
 	@$(OUT)/history_text write <examples/case_6.txt | cmp - examples/histories/case_6.history
 	@$(OUT)/replay_reference --quiet
 	@$(OUT)/replay_test $(REPLAY) 20000 1
+	@$(OUT)/ash_reference --quiet
+	@$(OUT)/ash_test $(ASH)
 
 soak: $(OUT)/replay_test $(REPLAY)
 	$(OUT)/replay_test $(REPLAY) 1000000 $$(date +%s)
@@ -207,10 +220,6 @@ $(OUT)/receive $(OUT)/plain_receiver: $(OUT)/%: host/bench/%.c $(PLAIN) $(HEADER
 
 $(OUT)/table_receiver: host/bench/plain_receiver.c $(PLAIN) $(HEADERS) | $(OUT)
 	$(CC) $(BENCH_CFLAGS) -DCONTENT_CRC=table_crc -o $@ $(INPUTS)
-
-target/bin/receive_bench: crates.txt $(shell find crates -type f)
-	rt check receive_bench
-	touch $@
 
 measure: $(OUT)/stack
 	@$(OUT)/stack

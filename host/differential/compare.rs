@@ -1,9 +1,9 @@
 //! One input given to the library and to the reference; reports and every lent byte compared.
 
 use crate::archive;
+use crate::classes::Class;
 use crate::frame::{check, read_frame, write_frame, Frame, Refusal};
 use crate::inputs::{CheckInput, CrcInput, WriteInput};
-use crate::tally::Class;
 
 /// Bytes on both sides of a lent output that must stay.
 const GUARD: usize = 16;

@@ -2,18 +2,20 @@
 //! them the run is always the same.
 
 mod archive;
+mod classes;
 mod compare;
 #[path = "../reference/frame.rs"]
 mod frame;
 mod inputs;
 mod random;
+mod seeds;
+#[allow(dead_code)]
 mod tally;
 
+use classes::Class;
 use random::Random;
 use std::process::ExitCode;
-use tally::{Class, Tally};
-
-const SEEDS: [u64; 4] = [1, 2, 3, 4];
+use tally::Tally;
 
 // Inputs for each seed.
 const CHECKS: usize = 40_000;
@@ -24,7 +26,7 @@ const CRCS: usize = 5_000;
 const FAILURES_SHOWN: usize = 5;
 
 struct Run {
-    tally: Tally,
+    tally: Tally<Class>,
     failures: usize,
 }
 
@@ -76,20 +78,8 @@ impl Run {
     }
 }
 
-/// The seeds named on the command line, or the fixed ones.
-fn seeds() -> Result<Vec<u64>, String> {
-    let named: Result<Vec<u64>, String> = std::env::args()
-        .skip(1)
-        .map(|word| word.parse().map_err(|_| format!("not a seed: {word}")))
-        .collect();
-    Ok(match named?.as_slice() {
-        [] => SEEDS.to_vec(),
-        named => named.to_vec(),
-    })
-}
-
 fn main() -> ExitCode {
-    let seeds = match seeds() {
+    let seeds = match seeds::seeds(std::env::args().skip(1)) {
         Ok(seeds) => seeds,
         Err(fault) => {
             eprintln!("{fault}");
@@ -97,13 +87,13 @@ fn main() -> ExitCode {
         }
     };
     let mut run = Run {
-        tally: Tally::new(),
+        tally: Tally::new(Class::all()),
         failures: 0,
     };
     run.every_short_frame();
     seeds.iter().for_each(|seed| run.seed(*seed));
     run.tally.print();
-    let missing = run.tally.missing();
+    let missing = run.tally.rare(1);
     if run.failures == 0 && !missing.is_empty() {
         println!("FAILED never met: {missing:?}");
     }

@@ -1,68 +1,31 @@
-//! How often each kind of answer was wanted: a run that never met one has tested nothing there.
+//! How often each kind of answer was wanted: a run that hardly met one has tested little there.
 
-use crate::frame::{Refusal, PAYLOAD_MAX};
+use std::fmt::Debug;
 
-/// Each kind of answer that a run must meet.
-#[derive(Clone, Copy, Debug, PartialEq, Eq)]
-pub enum Class {
-    CheckedEmpty,
-    Checked,
-    CheckedLongest,
-    CheckRefused(Refusal),
-    WrittenExactly,
-    WrittenWithRoom,
-    WriteRefused(Refusal),
-    Crc,
-}
-
-impl Class {
-    /// The frame check handed back a payload of this length.
-    pub fn checked(payload_length: usize) -> Class {
-        match payload_length {
-            0 => Class::CheckedEmpty,
-            PAYLOAD_MAX => Class::CheckedLongest,
-            _ => Class::Checked,
-        }
-    }
-}
-
-const TAKEN: [Class; 6] = [
-    Class::CheckedEmpty,
-    Class::Checked,
-    Class::CheckedLongest,
-    Class::WrittenExactly,
-    Class::WrittenWithRoom,
-    Class::Crc,
-];
-
-const CHECK_REFUSALS: [Refusal; 6] = [
-    Refusal::WrongFlags,
-    Refusal::WrongEscape,
-    Refusal::LongContent,
-    Refusal::ShortContent,
-    Refusal::WrongCheck,
-    Refusal::ShortOutput,
-];
-
-const WRITE_REFUSALS: [Refusal; 2] = [Refusal::LongPayload, Refusal::ShortOutput];
-
-pub struct Tally {
+pub struct Tally<Class> {
     counts: Vec<(Class, u64)>,
 }
 
-impl Tally {
-    pub fn new() -> Tally {
-        let checks = CHECK_REFUSALS.map(Class::CheckRefused);
-        let writes = WRITE_REFUSALS.map(Class::WriteRefused);
-        let classes = TAKEN.into_iter().chain(checks).chain(writes);
+impl<Class: Copy + Debug + PartialEq> Tally<Class> {
+    pub fn new(classes: impl IntoIterator<Item = Class>) -> Tally<Class> {
         Tally {
-            counts: classes.map(|class| (class, 0)).collect(),
+            counts: classes.into_iter().map(|class| (class, 0)).collect(),
         }
     }
 
     pub fn add(&mut self, class: Class) {
+        self.add_times(class, 1);
+    }
+
+    pub fn join(&mut self, other: &Tally<Class>) {
+        for (class, count) in &other.counts {
+            self.add_times(*class, *count);
+        }
+    }
+
+    fn add_times(&mut self, class: Class, times: u64) {
         let entry = self.counts.iter_mut().find(|entry| entry.0 == class);
-        entry.expect("every class has its count").1 += 1;
+        entry.expect("every class has its count").1 += times;
     }
 
     pub fn total(&self) -> u64 {
@@ -75,9 +38,9 @@ impl Tally {
         }
     }
 
-    /// The classes that were never met.
-    pub fn missing(&self) -> Vec<Class> {
-        let never = self.counts.iter().filter(|entry| entry.1 == 0);
-        never.map(|entry| entry.0).collect()
+    /// The classes that were met fewer times than this.
+    pub fn rare(&self, least: u64) -> Vec<Class> {
+        let rare = self.counts.iter().filter(|entry| entry.1 < least);
+        rare.map(|entry| entry.0).collect()
     }
 }

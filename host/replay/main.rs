@@ -3,6 +3,7 @@
 //!
 //! Arguments: the program, how many histories, the seed.
 
+mod child;
 #[path = "../reference/frame.rs"]
 #[allow(dead_code)]
 mod frame;
@@ -16,8 +17,7 @@ mod sights;
 use random::Random;
 use sights::Sights;
 use std::env;
-use std::io::{self, Write};
-use std::process::{Command, ExitCode, Stdio};
+use std::process::ExitCode;
 use std::thread;
 
 fn main() -> ExitCode {
@@ -70,7 +70,7 @@ fn run(
             _ => histories::history(&mut random),
         };
         let expected = program::output(&history);
-        let printed = printed(program, &history).map_err(|error| error.to_string())?;
+        let printed = child::printed(program, &history).map_err(|error| error.to_string())?;
         if printed != expected.as_bytes() {
             let printed = String::from_utf8_lossy(&printed);
             return Err(format!(
@@ -80,28 +80,4 @@ fn run(
         seen.add(&expected);
     }
     Ok(seen)
-}
-
-fn printed(program: &str, history: &[u8]) -> io::Result<Vec<u8>> {
-    let mut child = Command::new(program)
-        .stdin(Stdio::piped())
-        .stdout(Stdio::piped())
-        .spawn()?;
-    let mut input = child.stdin.take().expect("a piped standard input");
-    let (written, output) = thread::scope(|scope| {
-        let writer = scope.spawn(move || input.write_all(history));
-        let output = child.wait_with_output();
-        (writer.join().expect("a writer that ended"), output)
-    });
-    // The program stops at a broken field, so the rest may find no reader.
-    if let Err(error) = written {
-        if error.kind() != io::ErrorKind::BrokenPipe {
-            return Err(error);
-        }
-    }
-    let output = output?;
-    if !output.status.success() {
-        return Err(io::Error::other(format!("replay ended with {}", output.status)));
-    }
-    Ok(output.stdout)
 }

@@ -1,0 +1,157 @@
+//! A call of the writer or the reader: the line that `ash_cases` is given for it, and the line that
+//! it has to print.
+
+use crate::ash::{read_frame, write_frame, Refusal};
+use crate::classes::{Class, Form};
+
+/// The longest output that the program lends.
+pub const OUTPUT_MAX: usize = 80;
+
+/// Of a line the program reads so many bytes.
+pub const LINE_BYTES_MAX: usize = 400;
+
+/// What the output holds before the call.
+const UNTOUCHED: u8 = 0xee;
+
+/// `room` is the length of the lent output.
+#[derive(Clone, Debug)]
+pub enum Case {
+    Write {
+        room: usize,
+        control: u8,
+        payload: Vec<u8>,
+    },
+    Read {
+        room: usize,
+        frame: Vec<u8>,
+    },
+}
+
+/// What the reference says of a case: the answer as text, and what it puts at the start of the
+/// output.
+struct Answer {
+    text: String,
+    put: Vec<u8>,
+    class: Class,
+}
+
+impl Case {
+    pub fn line(&self, label: &str) -> String {
+        let (key, head, bytes) = match self {
+            Case::Write {
+                room,
+                control,
+                payload,
+            } => ('w', vec![*room as u8, *control], payload),
+            Case::Read { room, frame } => ('r', vec![*room as u8], frame),
+        };
+        let bytes = head.iter().chain(bytes).map(|byte| format!(" {byte:02x}"));
+        format!("{key} {label}:{}\n", bytes.collect::<String>())
+    }
+
+    pub fn printed(&self, label: &str) -> (String, Class) {
+        let (room, answer) = match self {
+            Case::Write {
+                room,
+                control,
+                payload,
+            } => (*room, written(*control, payload, *room)),
+            Case::Read { room, frame } => (*room, read(frame, *room)),
+        };
+        let mut output = vec![UNTOUCHED; room];
+        output[..answer.put.len()].copy_from_slice(&answer.put);
+        let output: String = output.iter().map(|byte| format!("{byte:02x}")).collect();
+        (format!("{label}: {} {output}\n", answer.text), answer.class)
+    }
+}
+
+fn written(control: u8, payload: &[u8], room: usize) -> Answer {
+    match write_frame(control, payload, room) {
+        Ok(frame) => Answer {
+            text: format!("length {}", frame.len()),
+            class: Class::Written(Form::of(&frame)),
+            put: frame,
+        },
+        Err(refusal) => refused(refusal, Class::WriteRefused(refusal)),
+    }
+}
+
+fn read(bytes: &[u8], room: usize) -> Answer {
+    match read_frame(bytes, room) {
+        Ok(frame) => Answer {
+            text: format!("control {} length {}", frame.control, frame.payload.len()),
+            class: Class::Read(Form::of(bytes)),
+            put: frame.payload,
+        },
+        Err(refusal) => refused(refusal, Class::ReadRefused(refusal)),
+    }
+}
+
+fn refused(refusal: Refusal, class: Class) -> Answer {
+    Answer {
+        text: format!("refused {}", refusal.number()),
+        class,
+        put: Vec::new(),
+    }
+}
+
+/// The stored cases of `ash_cases`, whose answers were written from the papers.
+#[cfg(test)]
+mod stored {
+    use super::*;
+
+    const LINES: &str = include_str!("../../crates/ash_cases/stdin");
+    const PRINTED: &str = include_str!("../../crates/ash_cases/stdout");
+
+    /// The label and the case of a line, unless the program passes over it.
+    fn parse(line: &str) -> Option<(&str, Case)> {
+        let (head, words) = line.split_once(':')?;
+        let (key, label) = head.split_once(' ')?;
+        let bytes: Vec<u8> = words.split_whitespace().map(byte).collect();
+        let (room, bytes) = bytes.split_first()?;
+        let room = usize::from(*room);
+        let case = match (key, bytes) {
+            ("w", [control, payload @ ..]) => Case::Write {
+                room,
+                control: *control,
+                payload: payload.to_vec(),
+            },
+            ("r", frame) => Case::Read {
+                room,
+                frame: frame.to_vec(),
+            },
+            _ => return None,
+        };
+        (room <= OUTPUT_MAX).then_some((label, case))
+    }
+
+    fn byte(word: &str) -> u8 {
+        match word.as_bytes() {
+            [b'\'', byte] => *byte,
+            _ => u8::from_str_radix(word, 16).expect("two hexadecimal digits"),
+        }
+    }
+
+    /// What the reference says of each line.
+    fn answers() -> Vec<(String, Class)> {
+        let lines = LINES.lines().filter(|line| !line.starts_with('#'));
+        let cases = lines.filter_map(parse);
+        cases.map(|(label, case)| case.printed(label)).collect()
+    }
+
+    #[test]
+    fn have_the_answers_of_the_reference() {
+        let answers = answers();
+        for ((answer, _), printed) in answers.iter().zip(PRINTED.split_inclusive('\n')) {
+            assert_eq!(answer, printed);
+        }
+        assert_eq!(answers.len(), PRINTED.lines().count());
+    }
+
+    #[test]
+    fn meet_every_kind_of_answer() {
+        let met: Vec<Class> = answers().into_iter().map(|(_, class)| class).collect();
+        let missing: Vec<Class> = Class::all().filter(|class| !met.contains(class)).collect();
+        assert_eq!(missing, []);
+    }
+}

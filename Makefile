@@ -198,12 +198,12 @@ fuzz: $(FUZZ)/archive $(FUZZ)/replay
 
 # The tests under valgrind
 
-valgrind: $(addprefix $(OUT)/,$(C_TESTS) serial differential replay_test display) $(REPLAY)
-	@host/valgrind/run.sh $(VALGRIND) $(OUT) $(REPLAY) $(C_TESTS)
+valgrind: $(addprefix $(OUT)/,$(C_TESTS) serial differential replay_test display) $(REPLAY) $(ASH)
+	@host/valgrind/run.sh $(VALGRIND) $(OUT) $(REPLAY) $(ASH) $(C_TESTS)
 
 # Mutants: small wrong programs, each to be refused
 
-CRATES ?= slices crc value rows board display host link frame packet transfer history refusals
+CRATES ?= slices crc value rows board display host link frame packet transfer history refusals ash
 
 mutants:
 	rt check $(CRATES)

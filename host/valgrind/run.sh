@@ -1,13 +1,14 @@
 #!/usr/bin/env bash
 # The host tests under valgrind; each error that it reports is a failure.
 #
-#   run.sh VALGRIND FOLDER REPLAY TEST...
+#   run.sh VALGRIND FOLDER REPLAY ASH TEST...
 set -euo pipefail
 
 valgrind=$1
 folder=$2
 replay=$3
-shift 3
+ash=$4
+shift 4
 histories=100
 
 if ! command -v "$valgrind" >/dev/null; then
@@ -24,6 +25,8 @@ done
 "${check[@]}" "$folder/display" <examples/line.capture | diff -u examples/line.expected -
 echo "example: the capture gives its expected lines"
 "${check[@]}" "$folder/differential" 1
+"${check[@]}" "$ash" <crates/ash_cases/stdin | diff -u crates/ash_cases/stdout -
+echo "ash: the stored cases give their stored answers"
 
 # For the tests that are given a program.
 checked=$folder/replay_under_valgrind

@@ -17,7 +17,7 @@ use Rattle.ash.specs.Header.{headerEscape, sentByte, sentHeader, control
 use Rattle.ash.specs.Check.{checkBytes}
 use Rattle.ash.specs.Writing as writing
 use Rattle.ash.specs.Writing.{frameOf, written, writeFrame}
-use Rattle.ash.specs.Reading.{frame, readSized, readWhole, flagFirst, readFrame}
+use Rattle.ash.specs.Reading.{frame, readByLength, readByHeader, flagFirst, readFrame}
 use Rattle.ash.proofs.ReservedLaws.{flipped-twice}
 use Rattle.ash.proofs.HeaderLaws.{length-decides}
 use Rattle.ash.proofs.ReadLaws.{same-check, length-right, header-good, long-enough}
@@ -74,14 +74,14 @@ module _ (control : ℕ) (p : List ℕ) where
   unfolding frameOf sentHeader
   frame-flag = refl
 
-  frame-header : readWhole (frameOf control p) ≡ readSized control size (frameOf control p)
+  frame-header : readByHeader (frameOf control p) ≡ readByLength control size (frameOf control p)
   unfolding frameOf sentHeader
   frame-header =
       let bytes = frameOf control p in
       let b = bits (reserved control) (reserved size) in
       let first : unescaped (controlEscaped (headerEscape control size)) (sentByte control) ≡ control = rw (b .control) (sent-right control .stands) in
       let second : unescaped (lengthEscaped (headerEscape control size)) (sentByte size) ≡ size = rw (b .size) (sent-right size .stands) in
-      header-good bytes (header-read control size) ∙ ap₂ (λ (c n : ℕ). readSized c n bytes) first second
+      header-good bytes (header-read control size) ∙ ap₂ (λ (c n : ℕ). readByLength c n bytes) first second
 
   -- THEOREM. Every frame of any control byte and a payload of at most 57 bytes as sent is read back as its control byte and payload.
   pub frame-read-back : (room : ℕ) → payloadMax ≤ room → size ≤ payloadMax → readFrame room (frameOf control p) ≡ frame control p

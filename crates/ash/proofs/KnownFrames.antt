@@ -11,7 +11,7 @@ use Rattle.ash.specs.Stuffing.{stuff, unstuffFrom}
 use Rattle.ash.specs.Header.{headerOf, sentHeader, goodHeader}
 use Rattle.ash.specs.Check.{spread, checkOver}
 use Rattle.ash.specs.Writing.{frameOf, written, writeFrame}
-use Rattle.ash.specs.Reading.{frame, readSized, readWhole, readFrame}
+use Rattle.ash.specs.Reading.{frame, readByLength, readByHeader, readFrame}
 
 -- 02, C-11: RESET has type 0, OFC 1 and AFC 0; RESET ACK has type 1, OFC 1 and AFC 1
 abbrev reset : List ℕ
@@ -25,7 +25,7 @@ unfolding writeFrame frameOf sentHeader headerOf checkOver spread crcOf addByte 
 known-written = (refl, refl)
 
 pub known-read : (readFrame 57 reset ≡ frame 0x08 []) × (readFrame 57 resetAcknowledgement ≡ frame 0x49 [])
-unfolding readFrame readWhole readSized goodHeader unstuffFrom sameBytes headerOf checkOver spread crcOf addByte shiftBits shiftBit reserved each
+unfolding readFrame readByHeader readByLength goodHeader unstuffFrom sameBytes headerOf checkOver spread crcOf addByte shiftBits shiftBit reserved each
 known-read = (refl, refl)
 
 -- 002, 3.10: the examples, and a byte that is not special within a frame

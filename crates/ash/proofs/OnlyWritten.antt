@@ -18,7 +18,7 @@ use Rattle.ash.specs.Stuffing.{payloadMax, stuff, Unstuffed, payload, br
 use Rattle.ash.specs.Header.{sentByte, sentHeader, controlEscaped, lengthEscaped, goodHeader}
 use Rattle.ash.specs.Check.{checkBytes}
 use Rattle.ash.specs.Writing.{frameOf, written, writeFrame}
-use Rattle.ash.specs.Reading.{Read, frame, refused, checked, readSized, readWhole, flagFirst, readFrame}
+use Rattle.ash.specs.Reading.{Read, frame, refused, checked, readByLength, readByHeader, flagFirst, readFrame}
 use Rattle.ash.proofs.ReservedLaws.{flipped-twice}
 use Rattle.ash.proofs.WriteLaws.{frame-length, room-enough}
 use Rattle.ash.proofs.StuffTheorems.{stuff-unstuff}
@@ -100,9 +100,9 @@ record Sized (control size : ℕ) (bytes : List ℕ) (control₁ : ℕ) (p : Lis
   whole : length bytes ≡ size + 7
   parts : Checked control (drop (size + 4) bytes) (unstuff (take size (drop 4 bytes))) control₁ p
 
-sized-frame : (control size : ℕ) (bytes : List ℕ) (control₁ : ℕ) (p : List ℕ) → readSized control size bytes ≡ frame control₁ p
+sized-frame : (control size : ℕ) (bytes : List ℕ) (control₁ : ℕ) (p : List ℕ) → readByLength control size bytes ≡ frame control₁ p
     → Sized control size bytes control₁ p
-unfolding readSized
+unfolding readByLength
 sized-frame control size bytes control₁ p e = cases (leb size payloadMax && eqb (length bytes) (size + 7)) refl e
   where
     found : Read
@@ -133,11 +133,11 @@ module _ (escape first second : ℕ) (rest : List ℕ) where
   behind-header : (n : ℕ) → drop n rest ≡ drop (n + 4) bytes
   behind-header n = let same : n + 4 ≡ suc (suc (suc (suc n))) = omega arith in rw same
 
-  whole-frame : (control : ℕ) (p : List ℕ) → escape < 0x100 → readWhole bytes ≡ frame control p → Taken control p bytes
-  unfolding readWhole
+  whole-frame : (control : ℕ) (p : List ℕ) → escape < 0x100 → readByHeader bytes ≡ frame control p → Taken control p bytes
+  unfolding readByHeader
   whole-frame control p h e = cases (goodHeader escape first second) refl e
     where
-      cases : (t : Bool) → goodHeader escape first second ≡ t → cond t (readSized meant size-meant bytes) (refused badHeader) ≡ frame control p
+      cases : (t : Bool) → goodHeader escape first second ≡ t → cond t (readByLength meant size-meant bytes) (refused badHeader) ≡ frame control p
           → Taken control p bytes
       cases false f e = let z : _≡_ {A = ℕ} 0 1 = cc in absurd (omega arith)
       cases true f e =
@@ -155,14 +155,14 @@ module _ (escape first second : ℕ) (rest : List ℕ) where
 record Opened (bytes : List ℕ) (found : Read) : Type 0 where
   flag : flagFirst bytes ≡ true
   long : 7 ≤ length bytes
-  whole : readWhole bytes ≡ found
+  whole : readByHeader bytes ≡ found
 
 opened : (room : ℕ) (bytes : List ℕ) (control : ℕ) (p : List ℕ) → readFrame room bytes ≡ frame control p → Opened bytes (frame control p)
 unfolding readFrame
 opened room bytes control p e = cases (ltb room payloadMax) (flagFirst bytes) (ltb (length bytes) 7) refl refl e
   where
     cases : (t u v : Bool) → flagFirst bytes ≡ u → ltb (length bytes) 7 ≡ v
-        → cond t (refused shortOutput) (cond u (cond v (refused badLength) (readWhole bytes)) (refused badHeader)) ≡ frame control p
+        → cond t (refused shortOutput) (cond u (cond v (refused badLength) (readByHeader bytes)) (refused badHeader)) ≡ frame control p
         → Opened bytes (frame control p)
     cases true u v f g e = let z : _≡_ {A = ℕ} 0 1 = cc in absurd (omega arith)
     cases false false v f g e = let z : _≡_ {A = ℕ} 0 1 = cc in absurd (omega arith)
@@ -176,7 +176,7 @@ frame-taken (a ∷ b ∷ []) control p h o = absurd (omega (arith, o .long))
 frame-taken (a ∷ b ∷ c ∷ []) control p h o = absurd (omega (arith, o .long))
 frame-taken (a ∷ b ∷ c ∷ d ∷ rest) control p h o =
     let flag : a ≡ flagByte = eqb-true a flagByte (o .flag) in
-    let whole : readWhole (flagByte ∷ b ∷ c ∷ d ∷ rest) ≡ frame control p = rw flag at (o .whole) in
+    let whole : readByHeader (flagByte ∷ b ∷ c ∷ d ∷ rest) ≡ frame control p = rw flag at (o .whole) in
     rw flag (whole-frame b c d rest control p h whole)
 
 -- THEOREM. A frame is taken only if it is exactly what the writer writes for its control byte and payload. (The elements of a list are

@@ -13,7 +13,7 @@ use Rattle.slices.specs.Same.{sameBytes}
 use Rattle.ash.specs.Reserved.{flagByte, unescaped}
 use Rattle.ash.specs.Stuffing.{payloadMax, Unstuffed, broken, unstuff}
 use Rattle.ash.specs.Header.{controlEscaped, lengthEscaped, goodHeader}
-use Rattle.ash.specs.Reading.{Read, frame, refused, compared, checked, readSized, readWhole, flagFirst, readFrame}
+use Rattle.ash.specs.Reading.{Read, frame, refused, compared, checked, readByLength, readByHeader, flagFirst, readFrame}
 use Rattle.ash.specs.Answers.{ReadsAs}
 use Rattle.ash.specs.declared.reader.FrameRead.the-variants as answer
 
@@ -36,17 +36,17 @@ pub payload-broken : (control : ℕ) (check : List ℕ) (found : Unstuffed) → 
 payload-broken control check found e = rw e
 
 module _ (control size : ℕ) (bytes : List ℕ) where
-  pub length-over : payloadMax < size → readSized control size bytes ≡ refused badLength
-  unfolding readSized
+  pub length-over : payloadMax < size → readByLength control size bytes ≡ refused badLength
+  unfolding readByLength
   length-over h = rw (lt-leb size payloadMax h)
 
-  pub length-other : size ≤ payloadMax → (length bytes ≡ size + 7 → ⊥) → readSized control size bytes ≡ refused badLength
-  unfolding readSized
+  pub length-other : size ≤ payloadMax → (length bytes ≡ size + 7 → ⊥) → readByLength control size bytes ≡ refused badLength
+  unfolding readByLength
   length-other h n = rw (le-leb size payloadMax h, ne-eqb (length bytes) (size + 7) n)
 
   pub length-right : size ≤ payloadMax → length bytes ≡ size + 7
-      → readSized control size bytes ≡ checked control (drop (size + 4) bytes) (unstuff (take size (drop 4 bytes)))
-  unfolding readSized
+      → readByLength control size bytes ≡ checked control (drop (size + 4) bytes) (unstuff (take size (drop 4 bytes)))
+  unfolding readByLength
   length-right h e = rw (le-leb size payloadMax h, eq-eqb (length bytes) (size + 7) e)
 
 -- the payload's bytes as a part of the slice
@@ -54,14 +54,14 @@ pub payload-part : (bytes : List ℕ) (size : ℕ) → take (size + 4 - 4) (drop
 payload-part bytes size = let same : size + 4 - 4 ≡ size = omega arith in rw same
 
 module _ (bytes : List ℕ) where
-  pub header-bad : goodHeader (getD bytes 1 0) (getD bytes 2 0) (getD bytes 3 0) ≡ false → readWhole bytes ≡ refused badHeader
-  unfolding readWhole
+  pub header-bad : goodHeader (getD bytes 1 0) (getD bytes 2 0) (getD bytes 3 0) ≡ false → readByHeader bytes ≡ refused badHeader
+  unfolding readByHeader
   header-bad e = rw e
 
   pub header-good : goodHeader (getD bytes 1 0) (getD bytes 2 0) (getD bytes 3 0) ≡ true
-      → readWhole bytes
-      ≡ readSized (unescaped (controlEscaped (getD bytes 1 0)) (getD bytes 2 0)) (unescaped (lengthEscaped (getD bytes 1 0)) (getD bytes 3 0)) bytes
-  unfolding readWhole
+      → readByHeader bytes
+      ≡ readByLength (unescaped (controlEscaped (getD bytes 1 0)) (getD bytes 2 0)) (unescaped (lengthEscaped (getD bytes 1 0)) (getD bytes 3 0)) bytes
+  unfolding readByHeader
   header-good e = rw e
 
 module _ (room : ℕ) (bytes : List ℕ) where
@@ -77,7 +77,7 @@ module _ (room : ℕ) (bytes : List ℕ) where
   unfolding readFrame
   too-short h e s = rw (le-ltb room payloadMax h, e, lt-ltb (length bytes) 7 s)
 
-  pub long-enough : payloadMax ≤ room → flagFirst bytes ≡ true → 7 ≤ length bytes → readFrame room bytes ≡ readWhole bytes
+  pub long-enough : payloadMax ≤ room → flagFirst bytes ≡ true → 7 ≤ length bytes → readFrame room bytes ≡ readByHeader bytes
   unfolding readFrame
   long-enough h e s = rw (le-ltb room payloadMax h, e, le-ltb (length bytes) 7 s)
 

@@ -26,20 +26,20 @@ checked control check (payload p) = compared control check (checkBytes control p
 checked control check broken = refused badStuffing
 
 -- refusal 22: a length over 57 or not the bytes present
-unfoldable pub readSized : ℕ → ℕ → List ℕ → Read
-readSized control size bytes =
+unfoldable pub readByLength : ℕ → ℕ → List ℕ → Read
+readByLength control size bytes =
     cond (leb size payloadMax && eqb (length bytes) (size + 7))
     (checked control (drop (size + 4) bytes) (unstuff (take size (drop 4 bytes))))
     (refused badLength)
 
 -- refusal 21: reserved header escape bits set, or a header escape that is needless or missing
-unfoldable pub readWhole : List ℕ → Read
-readWhole bytes =
+unfoldable pub readByHeader : List ℕ → Read
+readByHeader bytes =
     let escape = getD bytes 1 0 in
     let control = getD bytes 2 0 in
     let size = getD bytes 3 0 in
     cond (goodHeader escape control size)
-    (readSized (unescaped (controlEscaped escape) control) (unescaped (lengthEscaped escape) size) bytes)
+    (readByLength (unescaped (controlEscaped escape) control) (unescaped (lengthEscaped escape) size) bytes)
     (refused badHeader)
 
 abbrev pub flagFirst : List ℕ → Bool
@@ -50,4 +50,4 @@ flagFirst (b ∷ bs) = eqb b flagByte
 unfoldable pub readFrame : ℕ → List ℕ → Read
 readFrame room bytes =
     cond (ltb room payloadMax) (refused shortOutput)
-    (cond (flagFirst bytes) (cond (ltb (length bytes) 7) (refused badLength) (readWhole bytes)) (refused badHeader))
+    (cond (flagFirst bytes) (cond (ltb (length bytes) 7) (refused badLength) (readByHeader bytes)) (refused badHeader))

@@ -20,7 +20,7 @@ ghost use Prim.Native.Nat.{_≤_};
 ghost use lib.ListN.{length};
 ghost use Rattle.ash.specs.Stuffing.{payloadMax, unstuff};
 ghost use Rattle.ash.specs.Check.{checkOver};
-ghost use Rattle.ash.specs.Reading.{flagFirst, compared, checked, readSized, readWhole, readFrame};
+ghost use Rattle.ash.specs.Reading.{flagFirst, compared, checked, readByLength, readByHeader, readFrame};
 ghost use Rattle.ash.specs.Answers.{ReadsAs};
 
 // What the bytes turned out to be. The payload's `length` bytes stand at the start of the output.
@@ -42,7 +42,7 @@ pub fn read_frame(bytes: &[u8], out: &mut [u8]) -> FrameRead
     if bytes.len() < FRAME_MIN {
         return FrameRead::Refused(BAD_LENGTH);
     }
-    read_whole(bytes, out)
+    read_by_header(bytes, out)
 }
 
 // Whether the first byte is a flag.
@@ -55,10 +55,10 @@ fn flag_first(bytes: &[u8]) -> bool
     bytes[0] == FLAG
 }
 
-// Reads a frame by its header.
-fn read_whole(bytes: &[u8], out: &mut [u8]) -> FrameRead
+// Reads a frame by its header: refusal 21 where that is bad.
+fn read_by_header(bytes: &[u8], out: &mut [u8]) -> FrameRead
     requires { ⌜ 7 ≤ length (now bytes) ⌝ }
-    ensures { λ r. ⌜ ReadsAs (readWhole (now (bytes .entry))) (now (out .entry)) r (now (out .exit)) ⌝ }
+    ensures { λ r. ⌜ ReadsAs (readByHeader (now (bytes .entry))) (now (out .entry)) r (now (out .exit)) ⌝ }
 {
     let escape = bytes[1];
     let control = bytes[2];
@@ -68,12 +68,13 @@ fn read_whole(bytes: &[u8], out: &mut [u8]) -> FrameRead
     }
     let control_byte = unescape(control_escaped(escape), control);
     let length_byte = unescape(length_escaped(escape), length);
-    read_sized(control_byte, length_byte, bytes, out)
+    read_by_length(control_byte, length_byte, bytes, out)
 }
 
-// Reads a frame of which the header says these control and length bytes.
-fn read_sized(control: u8, length: u8, bytes: &[u8], out: &mut [u8]) -> FrameRead
-    ensures { λ r. ⌜ ReadsAs (readSized control length (now (bytes .entry))) (now (out .entry)) r (now (out .exit)) ⌝ }
+// Reads a frame whose header stands for these control and length bytes: refusal 22 where the length is
+// too long or not that of the bytes.
+fn read_by_length(control: u8, length: u8, bytes: &[u8], out: &mut [u8]) -> FrameRead
+    ensures { λ r. ⌜ ReadsAs (readByLength control length (now (bytes .entry))) (now (out .entry)) r (now (out .exit)) ⌝ }
 {
     let size = length as usize;
     if PAYLOAD_MAX < size {
@@ -86,7 +87,7 @@ fn read_sized(control: u8, length: u8, bytes: &[u8], out: &mut [u8]) -> FrameRea
     read_payload(control, &bytes[HEADER_SIZE..end], &bytes[end..], out)
 }
 
-// Reads a payload, as it was sent, by its check bytes.
+// Reads a payload as it was sent: refusal 23 where it is stuffed wrongly.
 fn read_payload(control: u8, sent: &[u8], check: &[u8], out: &mut [u8]) -> FrameRead
     requires { ⌜ length (now sent) ≤ payloadMax ⌝ }
     ensures { λ r. ⌜ ReadsAs (checked control (now (check .entry)) (unstuff (now (sent .entry)))) (now (out .entry)) r (now (out .exit)) ⌝ }
@@ -99,7 +100,7 @@ fn read_payload(control: u8, sent: &[u8], check: &[u8], out: &mut [u8]) -> Frame
     hand_out(control, sent.len() as u8, &payload[..length], check, out)
 }
 
-// Puts a payload at the start of `out`, unless the check bytes are other than the writer's.
+// Puts a payload at the start of `out`: refusal 24 where the check bytes are other than the writer's.
 fn hand_out(control: u8, size: u8, payload: &[u8], check: &[u8], out: &mut [u8]) -> FrameRead
     ensures { λ r. ⌜ ReadsAs (compared control (now (check .entry)) (checkOver control size (now (payload .entry))) (now (payload .entry))) (now (out .entry)) r (now (out .exit)) ⌝ }
 {

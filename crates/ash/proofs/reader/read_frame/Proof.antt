@@ -1,4 +1,4 @@
--- `ash::reader::read_frame` meets its contract: each refusal is the law of its test; otherwise it is what `read_whole` did.
+-- `ash::reader::read_frame` meets its contract: each refusal is the law of its test; otherwise it is what `read_by_header` did.
 use mathlib.Core.Path.{sym, _∙_}
 use lib.ListN.{length}
 use borrow.Author.Tests.{not-true, not-false}
@@ -27,8 +27,8 @@ returns-3 c =
     let yes = sym (c .before .before .flag-first .ensures) ∙ not-false _ (c .before .if2 .left) in
     refuses _ 22 (a .out .now) (too-short (length (a .out .now)) (a .bytes .now) (c .before .before .before .if1 .left) yes (c .if3 .taken))
 
-read-whole-requires : tie.Need-read-whole-requires
-read-whole-requires c κs = search needs
+read-by-header-requires : tie.Need-read-by-header-requires
+read-by-header-requires c κs = search needs
 
 same-length : tie.Need-same-length
 same-length c = search needs
@@ -37,7 +37,7 @@ returns-4 : tie.Need-returns-4
 returns-4 c =
     let a = c .before .before .before .before .before .before .before .before .before .before .args in
     let yes = sym (c .before .before .before .before .before .before .flag-first .ensures) ∙ not-false _ (c .before .before .before .before .before .if2 .left) in
-    rw (long-enough (length (a .out .now)) (a .bytes .now) (c .before .before .before .before .before .before .before .if1 .left) yes (c .before .before .before .before .if3 .left)) (c .before .before .read-whole .ensures)
+    rw (long-enough (length (a .out .now)) (a .bytes .now) (c .before .before .before .before .before .before .before .if1 .left) yes (c .before .before .before .before .if3 .left)) (c .before .before .read-by-header .ensures)
 
 pub read-frame-spec : {M : Type 1} → statement M
 read-frame-spec =
@@ -47,6 +47,6 @@ read-frame-spec =
     flag-first-requires
     returns-2
     returns-3
-    read-whole-requires
+    read-by-header-requires
     same-length
     returns-4)

@@ -1,11 +1,11 @@
--- `ash::reader::read_whole` meets its contract: a bad header is refused; otherwise it is what `read_sized` did with the bytes that the
+-- `ash::reader::read_by_header` meets its contract: a bad header is refused; otherwise it is what `read_by_length` did with the bytes that the
 -- header stands for.
 use mathlib.Core.Path.{sym, _∙_}
 use borrow.Author.Tests.{not-true, not-false}
 use Rattle.ash.proofs.ReadLaws.{header-bad, header-good, refuses}
 use borrow.Author.Needs.{needs}
-use Rattle.ash.proofs.reader.read_whole.Statement.{statement}
-use Rattle.ash.proofs.reader.read_whole.Tie as tie
+use Rattle.ash.proofs.reader.read_by_header.Statement.{statement}
+use Rattle.ash.proofs.reader.read_by_header.Tie as tie
 
 shared-slice-read-escape : tie.Need-shared-slice-read-escape
 shared-slice-read-escape c = search needs
@@ -37,8 +37,8 @@ length-escaped-requires c κs = search needs
 unescape-requires-2 : tie.Need-unescape-requires-2
 unescape-requires-2 c κs = search needs
 
-read-sized-requires : tie.Need-read-sized-requires
-read-sized-requires c κs = search needs
+read-by-length-requires : tie.Need-read-by-length-requires
+read-by-length-requires c κs = search needs
 
 same-length : tie.Need-same-length
 same-length c = search needs
@@ -47,10 +47,10 @@ returns-2 : tie.Need-returns-2
 returns-2 c =
     let a = c .before .before .before .before .before .before .before .before .before .before .before .before .before .before .before .args in
     let yes = sym (c .before .before .before .before .before .before .before .before .before .good-header .ensures) ∙ not-false _ (c .before .before .before .before .before .before .before .before .if1 .left) in
-    rw (header-good (a .bytes .now) yes, ← c .before .before .before .before .before .before .before .control-escaped .ensures, ← c .before .before .before .before .before .length-escaped .ensures, ← c .before .before .before .before .before .before .unescape .ensures, ← c .before .before .before .before .unescape2 .ensures) (c .before .before .read-sized .ensures)
+    rw (header-good (a .bytes .now) yes, ← c .before .before .before .before .before .before .before .control-escaped .ensures, ← c .before .before .before .before .before .length-escaped .ensures, ← c .before .before .before .before .before .before .unescape .ensures, ← c .before .before .before .before .unescape2 .ensures) (c .before .before .read-by-length .ensures)
 
-pub read-whole-spec : {M : Type 1} → statement M
-read-whole-spec =
+pub read-by-header-spec : {M : Type 1} → statement M
+read-by-header-spec =
     tie.close
     (tie.spec
     shared-slice-read-escape
@@ -62,6 +62,6 @@ read-whole-spec =
     unescape-requires
     length-escaped-requires
     unescape-requires-2
-    read-sized-requires
+    read-by-length-requires
     same-length
     returns-2)

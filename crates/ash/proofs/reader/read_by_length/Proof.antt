@@ -1,11 +1,11 @@
--- `ash::reader::read_sized` meets its contract: each refusal is the law of its test; otherwise it is what `read_payload` did with the
+-- `ash::reader::read_by_length` meets its contract: each refusal is the law of its test; otherwise it is what `read_payload` did with the
 -- bytes between header and check.
 use Rattle.ash.proofs.ReadLaws.{length-over, length-other, length-right, payload-part, refuses}
 use Rattle.slices.proofs.PartLaws.{part-rest}
 use Prim.Native.Nat.{_+_}
 use borrow.Author.Needs.{needs}
-use Rattle.ash.proofs.reader.read_sized.Statement.{statement}
-use Rattle.ash.proofs.reader.read_sized.Tie as tie
+use Rattle.ash.proofs.reader.read_by_length.Statement.{statement}
+use Rattle.ash.proofs.reader.read_by_length.Tie as tie
 
 returns : tie.Need-returns
 returns c =
@@ -52,8 +52,8 @@ returns-3 c =
     let a = c .before .before .before .before .before .before .before .before .before .before .args in
     rw (length-right (a .control) (a .length) (a .bytes .now) (c .before .before .before .before .before .before .before .if1 .left) (c .before .before .before .before .before .before .if2 .left), ← payload-part (a .bytes .now) (a .length), ← part-rest (a .bytes .now) (a .length + 4)) (c .before .before .read-payload .ensures)
 
-pub read-sized-spec : {M : Type 1} → statement M
-read-sized-spec =
+pub read-by-length-spec : {M : Type 1} → statement M
+read-by-length-spec =
     tie.close
     (tie.spec
     returns

@@ -23,7 +23,7 @@ abbrev pub unescaped : Bool → ℕ → ℕ
 unescaped true sent = flipped sent
 unescaped false sent = sent
 
--- a byte is escaped exactly where it is reserved: an escape of any other is needless, and of these none is missing
+-- a byte is escaped exactly where it is reserved: else its escape is needless or missing
 abbrev pub rightlyEscaped : Bool → ℕ → Bool
 rightlyEscaped true sent = reserved (flipped sent)
 rightlyEscaped false sent = not (reserved sent)

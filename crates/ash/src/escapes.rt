@@ -31,7 +31,7 @@ pub(crate) fn unescape(escaped: bool, sent: u8) -> u8
     if escaped { flip(sent) } else { sent }
 }
 
-// Whether a sent byte is escaped if it has to be, and only then.
+// Whether a sent byte is escaped where it has to be, and only there.
 pub(crate) fn rightly_escaped(escaped: bool, sent: u8) -> bool
     ensures { λ r. ⌜ r ≡ rightlyEscaped escaped sent ⌝ }
 {

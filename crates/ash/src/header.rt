@@ -48,8 +48,8 @@ pub(crate) fn length_escaped(escape: u8) -> bool
     escape / LENGTH_ESCAPED % 2 == 1
 }
 
-// Whether a sent header sets no reserved bit and escapes control and length exactly where they have to
-// be.
+// Whether a sent header sets no reserved bit, and escapes control and length where they have to be and
+// only there.
 pub(crate) fn good_header(escape: u8, control: u8, length: u8) -> bool
     ensures { λ r. ⌜ r ≡ goodHeader escape control length ⌝ }
 {

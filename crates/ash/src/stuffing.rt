@@ -13,8 +13,8 @@ ghost use Rattle.slices.specs.Put.{putAt};
 ghost use Rattle.ash.specs.Stuffing.{stuffByte, stuff, unstuff};
 ghost use Rattle.ash.specs.Answers.{UnstuffsAs};
 
-// Puts a payload, stuffed, at the start of `out`, and answers how many bytes it is stuffed. What would
-// fall past the end of `out` is dropped.
+// Puts a payload, stuffed, at the start of `out`, and answers its length as sent. What would fall past
+// the end of `out` is dropped.
 pub(crate) fn put_stuffed(out: &mut [u8], payload: &[u8]) -> usize
     ensures { λ r. ⌜ (r ≡ length (stuff (now (payload .entry)))) × (now (out .exit) ≡ putAt (now (out .entry)) 0 (stuff (now (payload .entry)))) ⌝ }
 {
@@ -27,7 +27,7 @@ pub(crate) fn put_stuffed(out: &mut [u8], payload: &[u8]) -> usize
     to
 }
 
-// Puts one byte of payload, stuffed, at the place `at`, and answers how many bytes it is stuffed.
+// Puts one byte of payload, stuffed, at the place `at`, and answers how many bytes it takes.
 fn put_byte(out: &mut [u8], at: usize, byte: u8) -> usize
     ensures { λ r. ⌜ (r ≡ length (stuffByte byte)) × (now (out .exit) ≡ putAt (now (out .entry)) at (stuffByte byte)) ⌝ }
 {
@@ -44,7 +44,7 @@ fn put_byte(out: &mut [u8], at: usize, byte: u8) -> usize
 // The answer of `unstuff` where a rule was broken: a number above any length of payload.
 pub(crate) const BROKEN: usize = PAYLOAD_MAX + 1;
 
-// Unstuffs the bytes `sent` to the start of `payload`, and answers how many they are unstuffed.
+// Unstuffs the bytes `sent` to the start of `payload`, and answers the payload's length.
 pub(crate) fn unstuff(sent: &[u8], payload: &mut [u8]) -> usize
     requires { ⌜ length (now sent) ≤ length (now payload) ⌝ }
     ensures { λ r. ⌜ UnstuffsAs (unstuff (now (sent .entry))) (now (payload .entry)) r (now (payload .exit)) ⌝ }

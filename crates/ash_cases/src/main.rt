@@ -20,9 +20,8 @@ fn main() {
 fn run_all(text: &[u8]) {
     let mut at: usize = 0;
     while at < text.len() {
-        let end = at + line::length(&text[at..]);
-        run(&text[at..end]);
-        at = end + 1;
+        run(line::at(text, at));
+        at = line::behind(text, at);
     }
 }
 

@@ -1,12 +1,14 @@
 -- A line is read step by step: a byte that is no mark is passed over, and a group of three characters gives one byte.
 use mathlib.Core.Path.{_≡_, refl, ap, _∙_}
+use mathlib.Core.Bool.{Bool, true, false, cond}
 use mathlib.Core.List.{List, [], _∷_}
 use Prim.Native.Nat.{ℕ, suc, _+_, _≤_, _<_}
 use native.Mathlib.Omega.{arith}
-use lib.ListN.{length, drop, getD, length-drop, drop-of-length-le}
+use lib.Dec.{eqb}
+use lib.ListN.{length, take, drop, getD, length-drop, drop-of-length-le}
 use lib.Seq.{drop-cons}
 use borrow.Author.Tests.{eq-eqb, ne-eqb}
-use Rattle.cases.specs.Line.{until, keyOf, byteOf, bytesOf, withByte, numberFrom}
+use Rattle.cases.specs.Line.{until, lineAt, keyOf, byteOf, bytesOf, withByte, numberFrom}
 
 module _ (mark : ℕ) (text : List ℕ) (i : ℕ) where
   pub passed-over : i < length text → (getD text i 0 ≡ mark → ⊥)
@@ -23,6 +25,22 @@ module _ (mark : ℕ) (text : List ℕ) (i : ℕ) where
   pub ended : length text ≤ i → length (until mark (drop i text)) ≡ 0
   unfolding until
   ended h = rw (drop-of-length-le text h)
+
+-- past the text no line begins
+pub no-line : (text : List ℕ) (place : ℕ) → length text ≤ place → lineAt text place ≡ []
+unfolding until
+no-line text place h = rw (drop-of-length-le text h)
+
+-- what stands before a mark is a part of the text
+pub until-part : (mark : ℕ) (text : List ℕ) → take (length (until mark text)) text ≡ until mark text
+unfolding until
+until-part mark [] = refl
+until-part mark (x ∷ xs) = cases (eqb x mark) (until-part mark xs)
+  where
+    cases : (t : Bool) → take (length (until mark xs)) xs ≡ until mark xs
+        → take (length (cond t [] (x ∷ until mark xs))) (x ∷ xs) ≡ cond t [] (x ∷ until mark xs)
+    cases true rest = refl
+    cases false rest = ap (λ (l : List ℕ). x ∷ l) rest
 
 pub one-group : (text : List ℕ) (at : ℕ) → at + 3 ≤ length text
     → bytesOf (drop at text) ≡ byteOf (getD text (at + 1) 0) (getD text (at + 2) 0) ∷ bytesOf (drop (at + 3) text)

@@ -10,6 +10,10 @@ unfoldable pub until : ℕ → List ℕ → List ℕ
 until mark [] = []
 until mark (x ∷ xs) = cond (eqb x mark) [] (x ∷ until mark xs)
 
+-- the line that begins at a place: what stands before its end, which is the byte 10
+abbrev pub lineAt : List ℕ → ℕ → List ℕ
+lineAt text place = until 10 (drop place text)
+
 -- the key is the first byte, and that of an empty line is 0
 abbrev pub keyOf : List ℕ → ℕ
 keyOf [] = 0

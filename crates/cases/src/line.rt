@@ -1,18 +1,41 @@
 // The parts of a case's line.
 use crate::print;
 ghost use mathlib.Core.Path.{_≡_};
-ghost use Prim.Native.Nat.{_≤_, _<_, min};
+ghost use Prim.Native.Nat.{_+_, _≤_, _<_, min};
 ghost use lib.ListN.{length};
 ghost use Rattle.io.specs.Counts.{Counts};
 ghost use Rattle.slices.specs.Put.{putAt};
-ghost use Rattle.cases.specs.Line.{until, keyOf, digitOf, byteOf, caseBytes, withByte, numberFrom};
+ghost use Rattle.cases.specs.Line.{until, lineAt, keyOf, digitOf, byteOf, caseBytes, withByte, numberFrom};
 
-// How many bytes the first line of a text has.
-pub fn length(text: &[u8]) -> usize
-    ensures { λ r. ⌜ r ≡ length (until 10 (now (text .entry))) ⌝ }
+// The line of a text that begins at a place, without its end. Past the text it is empty.
+pub fn at(text: &[u8], place: usize) -> &[u8]
+    ensures { λ r. ⌜ now r ≡ lineAt (now (text .entry)) place ⌝ }
+{
+    if text.len() <= place {
+        return &text[..0];
+    }
+    let end = end_of(text, place);
+    &text[place..end]
+}
+
+// The place where the next line begins; where there is none, the text's length.
+pub fn behind(text: &[u8], place: usize) -> usize
+    ensures { λ r. ⌜ r ≡ min (length (now (text .entry))) (place + length (lineAt (now (text .entry)) place) + 1) ⌝ }
+{
+    if text.len() <= place {
+        return text.len();
+    }
+    let end = end_of(text, place);
+    if end < text.len() { end + 1 } else { end }
+}
+
+// The place where a line that begins in the text ends.
+fn end_of(text: &[u8], place: usize) -> usize
+    requires { ⌜ place ≤ length (now text) ⌝ }
+    ensures { λ r. ⌜ r ≡ place + length (lineAt (now (text .entry)) place) ⌝ }
     ensures { λ r. ⌜ r ≤ length (now (text .entry)) ⌝ }
 {
-    find(text, b'\n')
+    place + find(&text[place..], b'\n')
 }
 
 // The key of a line. An empty line has the key 0.

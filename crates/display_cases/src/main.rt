@@ -26,9 +26,8 @@ fn run_all(text: &[u8]) {
     let mut display = hive();
     let mut at: usize = 0;
     while at < text.len() {
-        let end = at + line::length(&text[at..]);
-        display = run(display, &text[at..end]);
-        at = end + 1;
+        display = run(display, line::at(text, at));
+        at = line::behind(text, at);
     }
 }
 

@@ -24,9 +24,8 @@ fn run_all(text: &[u8], file: &mut [u8]) {
     let mut state = steps::first();
     let mut at: usize = 0;
     while at < text.len() {
-        let end = at + line::length(&text[at..]);
-        state = run(state, &text[at..end], file);
-        at = end + 1;
+        state = run(state, line::at(text, at), file);
+        at = line::behind(text, at);
     }
 }
 

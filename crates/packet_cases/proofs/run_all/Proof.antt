@@ -1,55 +1,34 @@
 -- `packet_cases::run_all` goes through the lines of its text, and ends: each line takes some of it.
 use native.Mathlib.Omega.{arith}
 use borrow.Author.Needs.{needs}
-use Prim.Native.Nat.{_+_, _-_, _≤_}
+use Prim.Native.Nat.{_-_}
 use lib.ListN.{length}
 use Rattle.packet_cases.proofs.run_all.Statement.{statement}
 use Rattle.packet_cases.proofs.run_all.Tie as tie
 
 abbrev Inv-loop : tie.InvT-loop
-Inv-loop text at₀ at = at ≤ length text + 1
+Inv-loop text at₀ at = Unit {0}
 
 abbrev μ-loop : tie.MeasureT-loop
-μ-loop text at₀ at = length text + 1 - at
+μ-loop text at₀ at = length text - at
 
 loop-holds : tie.Need-loop-holds Inv-loop μ-loop
-loop-holds c = omega arith
+loop-holds c = search needs
 
-sub-length : tie.Need-sub-length Inv-loop μ-loop
-sub-length c = omega arith
-
-part-length-start : tie.Need-part-length-start Inv-loop μ-loop
-part-length-start c = omega arith
-
-part-length-end : tie.Need-part-length-end Inv-loop μ-loop
-part-length-end c = omega arith
-
-length-requires : tie.Need-length-requires Inv-loop μ-loop
-length-requires c κs = tt
-
-add-end : tie.Need-add-end Inv-loop μ-loop
-add-end c = omega arith
-
-sub-run : tie.Need-sub-run Inv-loop μ-loop
-sub-run c = omega arith
-
-part-run-start : tie.Need-part-run-start Inv-loop μ-loop
-part-run-start c = omega arith
-
-part-run-end : tie.Need-part-run-end Inv-loop μ-loop
-part-run-end c = omega arith
+at-requires : tie.Need-at-requires Inv-loop μ-loop
+at-requires c κs = tt
 
 run-requires : tie.Need-run-requires Inv-loop μ-loop
 run-requires c κs = tt
 
-add-at : tie.Need-add-at Inv-loop μ-loop
-add-at c = omega arith
+behind-requires : tie.Need-behind-requires Inv-loop μ-loop
+behind-requires c κs = tt
 
 loop-less : tie.Need-loop-less Inv-loop μ-loop
-loop-less c = omega arith
+loop-less c = omega (arith, c .behind .ensures)
 
 loop-again : tie.Need-loop-again Inv-loop μ-loop
-loop-again c = omega arith
+loop-again c = search needs
 
 returns : tie.Need-returns Inv-loop μ-loop
 returns c = search needs
@@ -61,16 +40,9 @@ run-all-spec =
     Inv-loop
     μ-loop
     loop-holds
-    sub-length
-    part-length-start
-    part-length-end
-    length-requires
-    add-end
-    sub-run
-    part-run-start
-    part-run-end
+    at-requires
     run-requires
-    add-at
+    behind-requires
     loop-less
     loop-again
     returns)

@@ -15,8 +15,7 @@ use Rattle.ash.specs.Reserved.{reserved, unescaped, rightlyEscaped}
 use Rattle.ash.specs.Stuffing.{payloadMax, stuff, payload}
 use Rattle.ash.specs.Header.{headerEscape, sentByte, sentHeader, controlEscaped, lengthEscaped, goodHeader}
 use Rattle.ash.specs.Check.{checkBytes}
-use Rattle.ash.specs.Writing as writing
-use Rattle.ash.specs.Writing.{frameOf, written, writeFrame}
+use Rattle.ash.specs.Writing.{frameOf, written, refused, writeFrame}
 use Rattle.ash.specs.Reading.{frame, readByLength, readByHeader, flagFirst, readFrame}
 use Rattle.ash.proofs.ReservedLaws.{flipped-twice}
 use Rattle.ash.proofs.HeaderLaws.{length-decides}
@@ -95,20 +94,27 @@ module _ (control : ℕ) (p : List ℕ) where
       ∙ rw (frame-check, frame-payload, unstuff-stuff p)
       (same-check control (checkBytes control p) (checkBytes control p) p (same-refl (checkBytes control p)))
 
--- a frame was written only of a payload of at most 57 bytes as sent, and it is the frame of the two
-record Wrote (control : ℕ) (p sent : List ℕ) : Type 0 where
-  short : length (stuff p) ≤ payloadMax
-  is : sent ≡ frameOf control p
+-- a frame was written only of a payload of at most 57 bytes as sent and into room enough, and it is the frame of the two
+pub record Wrote (room control : ℕ) (p sent : List ℕ) : Type 0 where
+  pub short : length (stuff p) ≤ payloadMax
+  pub fits : length sent ≤ room
+  pub is : sent ≡ frameOf control p
 
-wrote : (room control : ℕ) (p sent : List ℕ) → writeFrame room control p ≡ written sent → Wrote control p sent
+pub wrote : (room control : ℕ) (p sent : List ℕ) → writeFrame room control p ≡ written sent → Wrote room control p sent
 unfolding writeFrame
-wrote room control p sent e = cases (ltb payloadMax (length (stuff p))) (ltb room (length (frameOf control p))) refl e
+wrote room control p sent e = cases (ltb payloadMax (length (stuff p))) (ltb room (length (frameOf control p))) refl refl e
   where
-    cases : (t u : Bool) → ltb payloadMax (length (stuff p)) ≡ t
-        → cond t (writing.refused badLength) (cond u (writing.refused shortOutput) (written (frameOf control p))) ≡ written sent → Wrote control p sent
-    cases true u f e = let z : _≡_ {A = ℕ} 0 1 = cc in absurd (omega arith)
-    cases false true f e = let z : _≡_ {A = ℕ} 0 1 = cc in absurd (omega arith)
-    cases false false f e = record { short = ltb-false payloadMax (length (stuff p)) f; is = let same : sent ≡ frameOf control p = cc in same }
+    cases : (t u : Bool) → ltb payloadMax (length (stuff p)) ≡ t → ltb room (length (frameOf control p)) ≡ u
+        → cond t (refused badLength) (cond u (refused shortOutput) (written (frameOf control p))) ≡ written sent → Wrote room control p sent
+    cases true u f g e = let z : _≡_ {A = ℕ} 0 1 = cc in absurd (omega arith)
+    cases false true f g e = let z : _≡_ {A = ℕ} 0 1 = cc in absurd (omega arith)
+    cases false false f g e =
+        let same : sent ≡ frameOf control p = cc in
+        record {
+          short = ltb-false payloadMax (length (stuff p)) f;
+          fits = rw same (ltb-false room (length (frameOf control p)) g);
+          is = same;
+        }
 
 -- THEOREM. Whatever the writer wrote is read back as its control byte and payload.
 pub written-read-back : (room control : ℕ) (p sent : List ℕ) (room₁ : ℕ) → writeFrame room control p ≡ written sent → payloadMax ≤ room₁

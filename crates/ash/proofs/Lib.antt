@@ -9,5 +9,6 @@ pub mod StuffTheorems
 pub mod PayloadLaws
 pub mod FrameTheorems
 pub mod OnlyWritten
+pub mod FrameCalls
 pub mod FreeFrames
 pub mod KnownFrames

@@ -21,6 +21,7 @@ use Rattle.ash.specs.Writing.{frameOf, written, writeFrame}
 use Rattle.ash.specs.Reading.{Read, frame, refused, checked, readByLength, readByHeader, flagFirst, readFrame}
 use Rattle.ash.proofs.ReservedLaws.{flipped-twice}
 use Rattle.ash.proofs.WriteLaws.{frame-length, room-enough}
+use Rattle.ash.proofs.StuffLaws.{stuff-least}
 use Rattle.ash.proofs.StuffTheorems.{stuff-unstuff}
 
 -- a header byte that is rightly escaped is sent so by the writer
@@ -151,39 +152,47 @@ module _ (escape first second : ℕ) (rest : List ℕ) where
             is = assembled control size-meant p rest (flagByte ∷ escape ∷ first ∷ second ∷ []) (s .parts .unstuffed) enough header check;
           }
 
--- a frame that was taken has a flag first and seven bytes
-record Opened (bytes : List ℕ) (found : Read) : Type 0 where
+-- a frame that was taken had an output of 57 bytes, a flag first and seven bytes
+record Opened (room : ℕ) (bytes : List ℕ) (found : Read) : Type 0 where
+  asked : payloadMax ≤ room
   flag : flagFirst bytes ≡ true
   long : 7 ≤ length bytes
   whole : readByHeader bytes ≡ found
 
-opened : (room : ℕ) (bytes : List ℕ) (control : ℕ) (p : List ℕ) → readFrame room bytes ≡ frame control p → Opened bytes (frame control p)
+opened : (room : ℕ) (bytes : List ℕ) (control : ℕ) (p : List ℕ) → readFrame room bytes ≡ frame control p → Opened room bytes (frame control p)
 unfolding readFrame
-opened room bytes control p e = cases (ltb room payloadMax) (flagFirst bytes) (ltb (length bytes) 7) refl refl e
+opened room bytes control p e = cases (ltb room payloadMax) (flagFirst bytes) (ltb (length bytes) 7) refl refl refl e
   where
-    cases : (t u v : Bool) → flagFirst bytes ≡ u → ltb (length bytes) 7 ≡ v
+    cases : (t u v : Bool) → ltb room payloadMax ≡ t → flagFirst bytes ≡ u → ltb (length bytes) 7 ≡ v
         → cond t (refused shortOutput) (cond u (cond v (refused badLength) (readByHeader bytes)) (refused badHeader)) ≡ frame control p
-        → Opened bytes (frame control p)
-    cases true u v f g e = let z : _≡_ {A = ℕ} 0 1 = cc in absurd (omega arith)
-    cases false false v f g e = let z : _≡_ {A = ℕ} 0 1 = cc in absurd (omega arith)
-    cases false true true f g e = let z : _≡_ {A = ℕ} 0 1 = cc in absurd (omega arith)
-    cases false true false f g e = record { flag = f; long = ltb-false (length bytes) 7 g; whole = e }
+        → Opened room bytes (frame control p)
+    cases true u v d f g e = let z : _≡_ {A = ℕ} 0 1 = cc in absurd (omega arith)
+    cases false false v d f g e = let z : _≡_ {A = ℕ} 0 1 = cc in absurd (omega arith)
+    cases false true true d f g e = let z : _≡_ {A = ℕ} 0 1 = cc in absurd (omega arith)
+    cases false true false d f g e = record { asked = ltb-false room payloadMax d; flag = f; long = ltb-false (length bytes) 7 g; whole = e }
 
-frame-taken : (bytes : List ℕ) (control : ℕ) (p : List ℕ) → getD bytes 1 0 < 0x100 → Opened bytes (frame control p) → Taken control p bytes
-frame-taken [] control p h o = absurd (omega (arith, o .long))
-frame-taken (a ∷ []) control p h o = absurd (omega (arith, o .long))
-frame-taken (a ∷ b ∷ []) control p h o = absurd (omega (arith, o .long))
-frame-taken (a ∷ b ∷ c ∷ []) control p h o = absurd (omega (arith, o .long))
-frame-taken (a ∷ b ∷ c ∷ d ∷ rest) control p h o =
+frame-taken : (room : ℕ) (bytes : List ℕ) (control : ℕ) (p : List ℕ) → getD bytes 1 0 < 0x100 → Opened room bytes (frame control p) → Taken control p bytes
+frame-taken room [] control p h o = absurd (omega (arith, o .long))
+frame-taken room (a ∷ []) control p h o = absurd (omega (arith, o .long))
+frame-taken room (a ∷ b ∷ []) control p h o = absurd (omega (arith, o .long))
+frame-taken room (a ∷ b ∷ c ∷ []) control p h o = absurd (omega (arith, o .long))
+frame-taken room (a ∷ b ∷ c ∷ d ∷ rest) control p h o =
     let flag : a ≡ flagByte = eqb-true a flagByte (o .flag) in
     let whole : readByHeader (flagByte ∷ b ∷ c ∷ d ∷ rest) ≡ frame control p = rw flag at (o .whole) in
     rw flag (whole-frame b c d rest control p h whole)
 
 -- THEOREM. A frame is taken only if it is exactly what the writer writes for its control byte and payload. (The elements of a list are
 -- any numbers; that the header escape is a byte is therefore asked.)
-pub only-written : (room : ℕ) (bytes : List ℕ) (control : ℕ) (p : List ℕ) → getD bytes 1 0 < 0x100 → readFrame room bytes ≡ frame control p
-    → writeFrame (length bytes) control p ≡ written bytes
-only-written room bytes control p h e =
-    let t = frame-taken bytes control p h (opened room bytes control p e) in
-    let fits : 7 + length (stuff p) ≤ length bytes = omega (arith, frame-length control p, ap length (t .is)) in
-    room-enough (length bytes) control p (t .short) fits ∙ ap written (sym (t .is))
+module _ (room : ℕ) (bytes : List ℕ) (control : ℕ) (p : List ℕ) (byte : getD bytes 1 0 < 0x100) (e : readFrame room bytes ≡ frame control p) where
+  pub only-written : writeFrame (length bytes) control p ≡ written bytes
+  only-written =
+      let t = frame-taken room bytes control p byte (opened room bytes control p e) in
+      let fits : 7 + length (stuff p) ≤ length bytes = omega (arith, frame-length control p, ap length (t .is)) in
+      room-enough (length bytes) control p (t .short) fits ∙ ap written (sym (t .is))
+
+  -- and its payload fits the output
+  pub taken-fits : length p ≤ room
+  taken-fits =
+      let o = opened room bytes control p e in
+      let t = frame-taken room bytes control p byte o in
+      omega (arith, o .asked, t .short, stuff-least p)

@@ -78,7 +78,8 @@ call-read-back control payload n sent before answer after w r asked =
     let fits = wrote (length out) control payload (t .sent) (t .is) .fits in
     let put : sent ≡ putAt out 0 (t .sent) = did-write .output ∙ ap (λ (x : Written). putAt out 0 (writtenBytes x)) (t .is) in
     let bytes : take n sent ≡ t .sent = put-told out sent (t .sent) n put (t .size) fits in
-    let is : readFrame (length before) (take n sent) ≡ frame control payload = rw bytes (written-read-back (length out) control payload (t .sent) (length before) (t .is) asked) in
+    let back = written-read-back (length out) control payload (t .sent) (length before) (t .is) asked in
+    let is : readFrame (length before) (take n sent) ≡ frame control payload = rw bytes back in
     let did-read = was-read r in
     (did-read .answers ∙ ap readAnswer is, did-read .output ∙ rw is)
 

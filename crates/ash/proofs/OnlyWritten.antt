@@ -72,9 +72,11 @@ module _ (control size : ℕ) (p rest : List ℕ) (header : List ℕ) (unstuffed
   assembled : header ++ rest ≡ frameOf control p
   unfolding frameOf
   assembled =
-      let parts : stuff p ++ checkBytes control p ≡ rest = ap₂ (λ (a b : List ℕ). a ++ b) (stuff-unstuff (take size rest) p unstuffed) (sym check) ∙ take-append-drop size rest in
+      let joined = ap₂ (λ (a b : List ℕ). a ++ b) (stuff-unstuff (take size rest) p unstuffed) (sym check) in
+      let parts : stuff p ++ checkBytes control p ≡ rest = joined ∙ take-append-drop size rest in
       let front : sentHeader control (length (stuff p)) ≡ header = ap (sentHeader control) sized ∙ sent in
-      sym (ap (λ (h : List ℕ). h ++ stuff p ++ checkBytes control p) front ∙ append-assoc header (stuff p) (checkBytes control p) ∙ ap (λ (l : List ℕ). header ++ l) parts)
+      let headed = ap (λ (h : List ℕ). h ++ stuff p ++ checkBytes control p) front in
+      sym (headed ∙ append-assoc header (stuff p) (checkBytes control p) ∙ ap (λ (l : List ℕ). header ++ l) parts)
 
 -- what a payload and its check bytes were taken as
 record Checked (control : ℕ) (check : List ℕ) (found : Unstuffed) (control₁ : ℕ) (p : List ℕ) : Type 0 where

@@ -30,7 +30,7 @@ unfolding reserved
 not-reserved b flag escape xon xoff unnamed =
     rw (ne-eqb b 0x7e flag, ne-eqb b 0x7d escape, ne-eqb b 0x11 xon, ne-eqb b 0x13 xoff, ne-eqb b 0xf8 unnamed)
 
--- and a byte that is not none of them is
+-- a byte that cannot be other than the five is reserved
 pub reserved-unless : (b : ℕ) → ((b ≡ 0x7e → ⊥) → (b ≡ 0x7d → ⊥) → (b ≡ 0x11 → ⊥) → (b ≡ 0x13 → ⊥) → (b ≡ 0xf8 → ⊥) → ⊥) → reserved b ≡ true
 unfolding reserved
 reserved-unless b h = cases (eqb b 0x7e) (eqb b 0x7d) (eqb b 0x11) (eqb b 0x13) (eqb b 0xf8) refl refl refl refl refl

@@ -22,7 +22,10 @@ spread-check-requires c κs = search needs
 returns : tie.Need-returns
 returns c =
     let a = c .before .before .before .before .before .before .args in
-    over (a .control) (a .length) (a .payload .now) _ _ _ _ (c .before .before .before .before .header-escape .ensures) (c .before .before .check .ensures) (c .before .check2 .ensures) (c .spread-check .ensures)
+    let escape = c .before .before .before .before .header-escape .ensures in
+    let begun = c .before .before .check .ensures in
+    let done = c .before .check2 .ensures in
+    over (a .control) (a .length) (a .payload .now) _ _ _ _ escape begun done (c .spread-check .ensures)
 
 pub check-bytes-spec : {M : Type 1} → statement M
 check-bytes-spec =

@@ -33,7 +33,10 @@ without-bit-4-requires-2 c κs = search needs
 
 returns : tie.Need-returns
 returns c =
-    spreads (c .before .before .before .before .args .check) _ _ _ _ (c .before .before .before .bit-4 .ensures) (c .before .before .bit-42 .ensures) (c .before .without-bit-4 .ensures) (c .without-bit-42 .ensures)
+    let high = c .before .before .before .bit-4 .ensures in
+    let low = c .before .before .bit-42 .ensures in
+    let first = c .before .without-bit-4 .ensures in
+    spreads (c .before .before .before .before .args .check) _ _ _ _ high low first (c .without-bit-42 .ensures)
 
 pub spread-check-spec : {M : Type 1} → statement M
 spread-check-spec =

@@ -22,7 +22,8 @@ returns-2 : tie.Need-returns-2
 returns-2 c =
     let a = c .before .before .before .before .args in
     let no = sym (c .before .rightly-escaped .ensures) ∙ not-true _ (c .if2 .taken) in
-    sym (control-wrong (a .escape) (a .control) (a .length) (c .before .before .before .if1 .left) (rw (c .before .before .control-escaped .ensures) at no))
+    let wrong = rw (c .before .before .control-escaped .ensures) at no in
+    sym (control-wrong (a .escape) (a .control) (a .length) (c .before .before .before .if1 .left) wrong)
 
 length-escaped-requires : tie.Need-length-escaped-requires
 length-escaped-requires c κs = search needs
@@ -32,11 +33,13 @@ rightly-escaped-requires-2 c κs = search needs
 
 returns-3 : tie.Need-returns-3
 returns-3 c =
-    let a = c .before .before .before .before .before .before .args in
-    let yes = sym (c .before .before .before .rightly-escaped .ensures) ∙ not-false _ (c .before .before .if2 .left) in
+    let right = c .before .before in
+    let a = right .before .before .before .before .args in
+    let yes = sym (right .before .rightly-escaped .ensures) ∙ not-false _ (right .if2 .left) in
+    let control = rw (right .before .before .control-escaped .ensures) at yes in
     c .rightly-escaped2 .ensures
     ∙ ap (λ t. rightlyEscaped t (a .length)) (c .before .length-escaped .ensures)
-    ∙ sym (length-decides (a .escape) (a .control) (a .length) (c .before .before .before .before .before .if1 .left) (rw (c .before .before .before .before .control-escaped .ensures) at yes))
+    ∙ sym (length-decides (a .escape) (a .control) (a .length) (right .before .before .before .if1 .left) control)
 
 pub good-header-spec : {M : Type 1} → statement M
 good-header-spec =

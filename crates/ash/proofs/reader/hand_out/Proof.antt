@@ -19,8 +19,10 @@ same-requires c κs = search needs
 returns : tie.Need-returns
 returns c =
     let a = c .before .before .before .before .before .before .before .args in
-    let no = sym (rw (c .before .before .before .check-bytes .ensures) at (c .before .same .ensures)) ∙ not-true _ (c .if1 .taken) in
-    refuses _ 24 (a .out .now) (other-check (a .control) (a .check .now) (checkOver (a .control) (a .size) (a .payload .now)) (a .payload .now) no)
+    let writers = checkOver (a .control) (a .size) (a .payload .now) in
+    let compares = rw (c .before .before .before .check-bytes .ensures) at (c .before .same .ensures) in
+    let no = sym compares ∙ not-true _ (c .if1 .taken) in
+    refuses _ 24 (a .out .now) (other-check (a .control) (a .check .now) writers (a .payload .now) no)
 
 put-requires : tie.Need-put-requires
 put-requires c κs = search needs
@@ -30,9 +32,13 @@ same-length c = search needs
 
 returns-2 : tie.Need-returns-2
 returns-2 c =
-    let a = c .before .before .before .before .before .before .before .before .before .before .before .args in
-    let yes = sym (rw (c .before .before .before .before .before .before .before .check-bytes .ensures) at (c .before .before .before .before .before .same .ensures)) ∙ not-false _ (c .before .before .before .before .if1 .left) in
-    reads _ (a .control) (a .payload .now) (a .out .now) _ (same-check (a .control) (a .check .now) (checkOver (a .control) (a .size) (a .payload .now)) (a .payload .now) yes) (c .before .before .put .ensures)
+    let same = c .before .before .before .before in
+    let a = same .before .before .before .before .before .before .before .args in
+    let writers = checkOver (a .control) (a .size) (a .payload .now) in
+    let compares = rw (same .before .before .before .check-bytes .ensures) at (same .before .same .ensures) in
+    let yes = sym compares ∙ not-false _ (same .if1 .left) in
+    let is = same-check (a .control) (a .check .now) writers (a .payload .now) yes in
+    reads _ (a .control) (a .payload .now) (a .out .now) _ is (c .before .before .put .ensures)
 
 pub hand-out-spec : {M : Type 1} → statement M
 hand-out-spec =

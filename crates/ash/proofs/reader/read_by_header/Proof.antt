@@ -45,9 +45,13 @@ same-length c = search needs
 
 returns-2 : tie.Need-returns-2
 returns-2 c =
-    let a = c .before .before .before .before .before .before .before .before .before .before .before .before .before .before .before .args in
-    let yes = sym (c .before .before .before .before .before .before .before .before .before .good-header .ensures) ∙ not-false _ (c .before .before .before .before .before .before .before .before .if1 .left) in
-    rw (header-good (a .bytes .now) yes, ← c .before .before .before .before .before .before .before .control-escaped .ensures, ← c .before .before .before .before .before .length-escaped .ensures, ← c .before .before .before .before .before .before .unescape .ensures, ← c .before .before .before .before .unescape2 .ensures) (c .before .before .read-by-length .ensures)
+    let size = c .before .before .before .before in
+    let control = size .before .before in
+    let good = control .before .before in
+    let bytes = good .before .before .before .before .before .before .before .args .bytes .now in
+    let yes = sym (good .before .good-header .ensures) ∙ not-false _ (good .if1 .left) in
+    let header = rw (← control .before .control-escaped .ensures, ← size .before .length-escaped .ensures) at (header-good bytes yes) in
+    rw (header, ← control .unescape .ensures, ← size .unescape2 .ensures) (c .before .before .read-by-length .ensures)
 
 pub read-by-header-spec : {M : Type 1} → statement M
 read-by-header-spec =

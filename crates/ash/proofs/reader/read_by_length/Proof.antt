@@ -49,8 +49,11 @@ same-length c = search needs
 
 returns-3 : tie.Need-returns-3
 returns-3 c =
-    let a = c .before .before .before .before .before .before .before .before .before .before .args in
-    rw (length-right (a .control) (a .length) (a .bytes .now) (c .before .before .before .before .before .before .before .if1 .left) (c .before .before .before .before .before .before .if2 .left), ← payload-part (a .bytes .now) (a .length), ← part-rest (a .bytes .now) (a .length + 4)) (c .before .before .read-payload .ensures)
+    let right = c .before .before .before .before .before .before in
+    let a = right .before .before .before .before .args in
+    let sized = length-right (a .control) (a .length) (a .bytes .now) (right .before .if1 .left) (right .if2 .left) in
+    let parts = rw (← payload-part (a .bytes .now) (a .length), ← part-rest (a .bytes .now) (a .length + 4)) at sized in
+    rw parts (c .before .before .read-payload .ensures)
 
 pub read-by-length-spec : {M : Type 1} → statement M
 read-by-length-spec =

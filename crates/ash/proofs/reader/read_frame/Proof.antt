@@ -35,9 +35,11 @@ same-length c = search needs
 
 returns-4 : tie.Need-returns-4
 returns-4 c =
-    let a = c .before .before .before .before .before .before .before .before .before .before .args in
-    let yes = sym (c .before .before .before .before .before .before .flag-first .ensures) ∙ not-false _ (c .before .before .before .before .before .if2 .left) in
-    rw (long-enough (length (a .out .now)) (a .bytes .now) (c .before .before .before .before .before .before .before .if1 .left) yes (c .before .before .before .before .if3 .left)) (c .before .before .read-by-header .ensures)
+    let long = c .before .before .before .before in
+    let a = long .before .before .before .before .before .before .args in
+    let yes = sym (long .before .before .flag-first .ensures) ∙ not-false _ (long .before .if2 .left) in
+    let whole = long-enough (length (a .out .now)) (a .bytes .now) (long .before .before .before .if1 .left) yes (long .if3 .left) in
+    rw whole (c .before .before .read-by-header .ensures)
 
 pub read-frame-spec : {M : Type 1} → statement M
 read-frame-spec =

@@ -25,9 +25,11 @@ filled-at c = filled _ (start (c .before .before) .pre) (replicate 57 0) _ _ ref
 
 returns : tie.Need-returns
 returns c =
-    let a = c .before .before .before .before .before .before .before .args in
+    let start = c .before .before .before .before .before .before .before in
+    let a = start .args in
     let u = c .before .before .unstuff .ensures in
-    refuses _ 23 (a .out .now) (payload-broken (a .control) (a .check .now) (unstuff (a .sent .now)) (answer-broken (a .sent .now) (c .before .before .before .before .before .before .before .pre) _ (u .answers) (c .if1 .taken)))
+    let is = answer-broken (a .sent .now) (start .pre) _ (u .answers) (c .if1 .taken) in
+    refuses _ 23 (a .out .now) (payload-broken (a .control) (a .check .now) (unstuff (a .sent .now)) is)
 
 cast-hand-out : tie.Need-cast-hand-out
 cast-hand-out c = omega (arith, c .before .before .before .before .before .before .before .pre)

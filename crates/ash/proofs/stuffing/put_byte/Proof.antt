@@ -23,9 +23,11 @@ same-length c = search needs
 
 returns : tie.Need-returns
 returns c =
-    let a = c .before .before .before .before .before .before .before .before .before .args in
-    let is = byte-escaped (a .byte) (sym (c .before .before .before .before .before .before .before .is-reserved .ensures) ∙ c .before .before .before .before .before .before .if1 .taken) in
-    stuffed-as (a .out .now) _ (a .at) (a .byte) (0x7d ∷ _ ∷ []) is (rw (c .before .before .before .before .before .flip .ensures) at (c .before .before .put .ensures))
+    let reserved = c .before .before .before .before .before .before in
+    let a = reserved .before .before .before .args in
+    let is = byte-escaped (a .byte) (sym (reserved .before .is-reserved .ensures) ∙ reserved .if1 .taken) in
+    let put = rw (c .before .before .before .before .before .flip .ensures) at (c .before .before .put .ensures) in
+    stuffed-as (a .out .now) _ (a .at) (a .byte) (0x7d ∷ _ ∷ []) is put
 
 slice-aggregate-put-2 : tie.Need-slice-aggregate-put-2
 slice-aggregate-put-2 c = search needs
@@ -38,8 +40,9 @@ same-length-2 c = search needs
 
 returns-2 : tie.Need-returns-2
 returns-2 c =
-    let a = c .before .before .before .before .before .before .before .before .args in
-    let is = byte-plain (a .byte) (sym (c .before .before .before .before .before .before .is-reserved .ensures) ∙ c .before .before .before .before .before .if1 .left) in
+    let free = c .before .before .before .before .before in
+    let a = free .before .before .before .args in
+    let is = byte-plain (a .byte) (sym (free .before .is-reserved .ensures) ∙ free .if1 .left) in
     stuffed-as (a .out .now) _ (a .at) (a .byte) (a .byte ∷ []) is (c .before .before .put2 .ensures)
 
 pub put-byte-spec : {M : Type 1} → statement M

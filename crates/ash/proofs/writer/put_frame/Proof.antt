@@ -42,12 +42,13 @@ same-length c = search needs
 
 returns : tie.Need-returns
 returns c =
-    let a = c .before .before .before .before .before .before .before .before .before .before .before .before .before .before .before .before .before .before .before .before .before .args in
+    let checked = c .before .before .before .before .before .before .before .before .before .before .before .before .before .before in
+    let a = checked .before .before .before .before .before .before .before .args in
     put-together (a .out .now) (a .sent .now) (a .payload .now) (a .control) _ _ _ _
-    (c .before .before .before .before .before .before .before .before .before .before .before .before .before .before .before .before .before .header-escape .ensures)
-    (c .before .before .before .before .before .before .before .before .before .before .before .before .before .before .before .before .sent-byte .ensures)
-    (c .before .before .before .before .before .before .before .before .before .before .before .before .before .before .before .sent-byte2 .ensures)
-    (c .before .before .before .before .before .before .before .before .before .before .before .before .before .before .check-bytes .ensures)
+    (checked .before .before .before .header-escape .ensures)
+    (checked .before .before .sent-byte .ensures)
+    (checked .before .sent-byte2 .ensures)
+    (checked .check-bytes .ensures)
     _ _ _
     (c .before .before .before .before .before .before .before .before .before .before .before .put .ensures)
     (c .before .before .before .before .before .before .before .put2 .ensures)

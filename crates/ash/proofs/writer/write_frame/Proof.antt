@@ -55,15 +55,15 @@ same-length c = search needs
 
 returns-3 : tie.Need-returns-3
 returns-3 c =
-    let a = c .before .before .before .before .before .before .before .before .before .before .before .before .args in
-    let room = length (a .out .now) in
-    let size = c .before .before .before .before .before .before .before .before .put-stuffed .ensures .0 in
-    let short = rw size at (c .before .before .before .before .before .before .if1 .left) in
-    let enough = rw size at (c .before .before .before .before .before .if2 .left) in
+    let short = c .before .before .before .before .before .before in
+    let a = short .before .before .before .before .before .before .args in
+    let size = short .before .before .put-stuffed .ensures .0 in
+    let fits = room-enough (length (a .out .now)) (a .control) (a .payload .now) (rw size at (short .if1 .left)) (rw size at (c .before .before .before .before .before .if2 .left)) in
+    let parts = frame-parts (a .control) (a .payload .now) _ (sent-at short) in
     writes _ (frameOf (a .control) (a .payload .now)) (a .out .now) _ _
-    (room-enough room (a .control) (a .payload .now) short enough)
+    fits
     (rw size (sym (frame-length (a .control) (a .payload .now))))
-    (rw (frame-parts (a .control) (a .payload .now) _ (sent-at (c .before .before .before .before .before .before))) at (c .before .before .put-frame .ensures))
+    (rw parts at (c .before .before .put-frame .ensures))
 
 pub write-frame-spec : {M : Type 1} → statement M
 write-frame-spec =

@@ -8,16 +8,18 @@ use Rattle.ash.specs.Reserved.{flagByte}
 use Rattle.ash.specs.Header.{headerEscape, headerOf}
 use Rattle.ash.specs.Check.{checkStart, bit4, withoutBit4, spread, checkOver}
 
+-- the three bytes, each by its part of the check
 pub spreads : (check high low first second : ℕ) → high ≡ bit4 (check / 0x100) → low ≡ bit4 (check % 0x100)
     → first ≡ withoutBit4 (check / 0x100) → second ≡ withoutBit4 (check % 0x100)
     → first ∷ second ∷ (high * 0x80 + low * 0x40) ∷ [] ≡ spread check
 unfolding spread
 spreads check high low first second h l f s = rw (h, l, f, s)
 
-pub over : (control size : ℕ) (payload : List ℕ) (escape : ℕ) (begun done : ℕ) (bytes : List ℕ)
+-- the check bytes, once the check has gone over both
+pub check-over : (control size : ℕ) (payload : List ℕ) (escape : ℕ) (begun done : ℕ) (bytes : List ℕ)
     → escape ≡ headerEscape control size → begun ≡ crcOf checkStart (flagByte ∷ escape ∷ control ∷ size ∷ [])
     → done ≡ crcOf begun payload → bytes ≡ spread done → bytes ≡ checkOver control size payload
 unfolding checkOver headerOf
-over control size payload escape begun done bytes e b d s =
+check-over control size payload escape begun done bytes e b d s =
     let header = flagByte ∷ headerEscape control size ∷ control ∷ size ∷ [] in
     rw (s, d, b, e) (ap spread (sym (crc-append checkStart header payload)))

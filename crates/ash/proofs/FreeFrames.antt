@@ -94,6 +94,11 @@ behind-free xs ys i past free =
     let place : i ≡ length xs + (i - length xs) = omega arith in
     rw (place, getD-append-add xs ys (i - length xs) 0) (free (i - length xs))
 
+-- an escape byte of the payload, as a place of the frame: the payload stands behind the four bytes of the header
+pub record PayloadEscape (p : List ℕ) (i : ℕ) : Type 0 where
+  pub behind-header : 4 ≤ i
+  pub escapes : EscapeAt (stuff p) (i - 4)
+
 -- so is one of payload and check bytes
 module _ (control : ℕ) (p : List ℕ) where
   checks-free : (i : ℕ) → reserved (getD (checkBytes control p) i 0) ≡ false
@@ -111,8 +116,8 @@ module _ (control : ℕ) (p : List ℕ) where
           let no = behind-free (stuff p) (checkBytes control p) i (ltb-false i (length (stuff p)) e) checks-free in
           let z : _≡_ {A = ℕ} 0 1 = cc in absurd (omega arith)
 
-  -- THEOREM. A reserved byte of a sent frame is its first byte, the flag, or an escape byte of its payload, which stands from place 4 on.
-  pub only-flag-and-escapes : (i : ℕ) → reserved (getD (frameOf control p) i 0) ≡ true → (i ≡ 0) ⊎ EscapeAt (stuff p) (i - 4)
+  -- THEOREM. A reserved byte of a sent frame is its first byte, the flag, or an escape byte of its payload.
+  pub only-flag-and-escapes : (i : ℕ) → reserved (getD (frameOf control p) i 0) ≡ true → (i ≡ 0) ⊎ PayloadEscape p i
   unfolding frameOf sentHeader
   only-flag-and-escapes zero h = inl refl
   only-flag-and-escapes (suc zero) h =
@@ -126,4 +131,4 @@ module _ (control : ℕ) (p : List ℕ) where
       let z : _≡_ {A = ℕ} 0 1 = cc in absurd (omega arith)
   only-flag-and-escapes (suc (suc (suc (suc i)))) h =
       let place : suc (suc (suc (suc i))) - 4 ≡ i = omega arith in
-      rw place (inr (rest-free i h))
+      inr (record { behind-header = omega arith; escapes = rw place (rest-free i h) })

@@ -7,10 +7,10 @@ use borrow.Author.Tests.{eq-eqb, ne-eqb}
 use Rattle.ash.specs.Reserved.{rightlyEscaped}
 use Rattle.ash.specs.Header.{controlEscaped, lengthEscaped, goodHeader}
 
--- a byte of the header sets its own bit at most
-pub mark-most : (t : Bool) (bit : ℕ) → cond t bit 0 ≤ bit
-mark-most true bit = omega arith
-mark-most false bit = omega arith
+-- a number that a test grants, or else 0, is at most that number
+pub granted-most : (t : Bool) (bit : ℕ) → cond t bit 0 ≤ bit
+granted-most true bit = omega arith
+granted-most false bit = omega arith
 
 module _ (escape control size : ℕ) where
   pub reserved-bits : (escape % 0x40 ≡ 0 → ⊥) → goodHeader escape control size ≡ false

@@ -1,4 +1,4 @@
--- Five bytes are reserved, and none of them is so with bit 5 flipped: what holds of the five holds of each reserved byte.
+-- What holds of the five reserved bytes holds of each byte that is reserved; so none of them is reserved with bit 5 flipped.
 use mathlib.Core.Path.{_≡_, refl}
 use mathlib.Core.Bool.{Bool, true, false, _||_}
 use Prim.Native.Nat.{ℕ, zero, suc, _+_, _*_, _/_, _%_, _<_}
@@ -7,7 +7,7 @@ use native.Mathlib.Omega.{arith}
 use lib.Arith.{bin-ind}
 use lib.Bits.{bitXor, differ, xor-step, xor-self}
 use lib.Dec.{eqb}
-use borrow.Author.Tests.{eqb-true, eqb-false, ne-eqb}
+use borrow.Author.Tests.{eqb-true, ne-eqb}
 use Rattle.ash.specs.Reserved.{reserved, flipped}
 
 pub reserved-five : (P : ℕ → Type 0) → P 0x7e → P 0x7d → P 0x11 → P 0x13 → P 0xf8 → (b : ℕ) → reserved b ≡ true → P b
@@ -30,21 +30,22 @@ unfolding reserved
 not-reserved b flag escape xon xoff unnamed =
     rw (ne-eqb b 0x7e flag, ne-eqb b 0x7d escape, ne-eqb b 0x11 xon, ne-eqb b 0x13 xoff, ne-eqb b 0xf8 unnamed)
 
+-- a byte that is not reserved is none that is
+pub unlike-reserved : (b v : ℕ) → reserved b ≡ false → reserved v ≡ true → b ≡ v → ⊥
+unlike-reserved b v free is e = let z : _≡_ {A = ℕ} 0 1 = cc in omega arith
+
 -- a byte that cannot be other than the five is reserved
 pub reserved-unless : (b : ℕ) → ((b ≡ 0x7e → ⊥) → (b ≡ 0x7d → ⊥) → (b ≡ 0x11 → ⊥) → (b ≡ 0x13 → ⊥) → (b ≡ 0xf8 → ⊥) → ⊥) → reserved b ≡ true
 unfolding reserved
-reserved-unless b h = cases (eqb b 0x7e) (eqb b 0x7d) (eqb b 0x11) (eqb b 0x13) (eqb b 0xf8) refl refl refl refl refl
+reserved-unless b h = cases (reserved b) refl
   where
-    cases : (t u v w x : Bool) → eqb b 0x7e ≡ t → eqb b 0x7d ≡ u → eqb b 0x11 ≡ v → eqb b 0x13 ≡ w → eqb b 0xf8 ≡ x
-        → (t || u || v || w || x) ≡ true
-    cases true u v w x e f g i j = refl
-    cases false true v w x e f g i j = refl
-    cases false false true w x e f g i j = refl
-    cases false false false true x e f g i j = refl
-    cases false false false false true e f g i j = refl
-    cases false false false false false e f g i j =
-        absurd (h (eqb-false b 0x7e e) (eqb-false b 0x7d f) (eqb-false b 0x11 g) (eqb-false b 0x13 i) (eqb-false b 0xf8 j))
+    cases : (t : Bool) → reserved b ≡ t → t ≡ true
+    cases true e = refl
+    cases false e =
+        let unlike : (v : ℕ) → reserved v ≡ true → b ≡ v → ⊥ = λ v. unlike-reserved b v e in
+        absurd (h (unlike 0x7e refl) (unlike 0x7d refl) (unlike 0x11 refl) (unlike 0x13 refl) (unlike 0xf8 refl))
 
+-- two digits that differ or not are a digit, and with the second once more the first
 differ-digit : (x y : ℕ) → x < 2 → y < 2 → differ x y < 2
 differ-digit zero y h k = k
 differ-digit (suc zero) zero h k = h
@@ -61,6 +62,7 @@ differ-twice (suc (suc x)) y h k = absurd (omega arith)
 differ-twice zero (suc (suc y)) h k = absurd (omega arith)
 differ-twice (suc zero) (suc (suc y)) h k = absurd (omega arith)
 
+-- exclusive-or with the same number twice, digit by digit
 xor-twice : (a b : ℕ) → bitXor (bitXor a b) b ≡ a
 xor-twice = bin-ind (λ (n : ℕ). (b : ℕ) → bitXor (bitXor n b) b ≡ n) (λ b. xor-self b) step
   where

@@ -21,22 +21,17 @@ byte-escaped b e = rw e
 pub byte-plain : (b : ℕ) → reserved b ≡ false → stuffByte b ≡ b ∷ []
 byte-plain b e = rw e
 
-size-at-most : (b : ℕ) → length (stuffByte b) ≤ 2
-size-at-most b = cases (reserved b)
+-- one byte at least, and two at most
+one-or-two : (b : ℕ) → (1 ≤ length (stuffByte b)) × (length (stuffByte b) ≤ 2)
+one-or-two b = cases (reserved b)
   where
-    cases : (t : Bool) → length (cond t (escapeByte ∷ flipped b ∷ []) (b ∷ [])) ≤ 2
-    cases true = omega arith
-    cases false = omega arith
-
-size-at-least : (b : ℕ) → 1 ≤ length (stuffByte b)
-size-at-least b = cases (reserved b)
-  where
-    cases : (t : Bool) → 1 ≤ length (cond t (escapeByte ∷ flipped b ∷ []) (b ∷ []))
-    cases true = omega arith
-    cases false = omega arith
+    cases : (t : Bool)
+        → (1 ≤ length (cond t (escapeByte ∷ flipped b ∷ []) (b ∷ []))) × (length (cond t (escapeByte ∷ flipped b ∷ []) (b ∷ [])) ≤ 2)
+    cases true = (omega arith, omega arith)
+    cases false = (omega arith, omega arith)
 
 pub stuff-least : (s : List ℕ) → length s ≤ length (stuff s)
-stuff-least s = least-each stuffByte size-at-least s
+stuff-least s = least-each stuffByte (λ b. one-or-two b .0) s
 
 pub length-stuff : (s : List ℕ) → length (stuff s) ≤ 2 * length s
-length-stuff s = length-each stuffByte size-at-most s
+length-stuff s = length-each stuffByte (λ b. one-or-two b .1) s

@@ -6,24 +6,17 @@ use mathlib.Core.List.{List, [], _∷_, _++_}
 use Prim.Native.Nat.{ℕ}
 use native.Mathlib.Omega.{arith}
 use lib.Dec.{eqb}
-use borrow.Author.Tests.{eqb-true, not-true}
+use borrow.Author.Tests.{ne-eqb, eqb-true, not-true}
 use Rattle.slices.specs.Each.{each}
 use Rattle.ash.specs.Reserved.{escapeByte, reserved, flipped, unescaped, rightlyEscaped}
 use Rattle.ash.specs.Stuffing.{stuffByte, stuff, escapes-next, stands-for, faulty, standing, Unstuffed, payload, broken, joined, taken, unstuffFrom, unstuff}
-use Rattle.ash.proofs.ReservedLaws.{flipped-twice}
+use Rattle.ash.proofs.ReservedLaws.{unlike-reserved, flipped-twice}
 use Rattle.ash.proofs.StuffLaws.{byte-escaped, byte-plain}
 
 -- a byte that is not reserved is no escape byte
 no-escape : (b : ℕ) → reserved b ≡ false → eqb b escapeByte ≡ false
 unfolding reserved
-no-escape b e = cases (eqb b escapeByte) refl
-  where
-    cases : (t : Bool) → eqb b escapeByte ≡ t → t ≡ false
-    cases false f = refl
-    cases true f =
-        let is : b ≡ escapeByte = eqb-true b escapeByte f in
-        let no : reserved escapeByte ≡ false = rw is at e in
-        let z : _≡_ {A = ℕ} 0 1 = cc in absurd (omega arith)
+no-escape b e = ne-eqb b escapeByte (unlike-reserved b escapeByte e refl)
 
 -- a stuffed byte stands for itself
 stuffed-byte : (b : ℕ) (rest : List ℕ) → unstuff (stuffByte b ++ rest) ≡ joined b (unstuff rest)

@@ -1,5 +1,5 @@
 -- `ash::check::check_bytes` meets its contract: the check over the header goes on over the payload.
-use Rattle.ash.proofs.CheckLaws.{over}
+use Rattle.ash.proofs.CheckLaws.{check-over}
 use borrow.Author.Needs.{needs}
 use Rattle.ash.proofs.check.check_bytes.Statement.{statement}
 use Rattle.ash.proofs.check.check_bytes.Tie as tie
@@ -25,7 +25,7 @@ returns c =
     let escape = c .before .before .before .before .header-escape .ensures in
     let begun = c .before .before .check .ensures in
     let done = c .before .check2 .ensures in
-    over (a .control) (a .length) (a .payload .now) _ _ _ _ escape begun done (c .spread-check .ensures)
+    check-over (a .control) (a .length) (a .payload .now) _ _ _ _ escape begun done (c .spread-check .ensures)
 
 pub check-bytes-spec : {M : Type 1} → statement M
 check-bytes-spec =

@@ -8,7 +8,7 @@ use lib.Dec.{eqb}
 use lib.ListN.{length, getD, length-set}
 use borrow.Author.Tests.{not-true, not-false}
 use Rattle.ash.specs.Reserved.{escapeByte}
-use Rattle.ash.proofs.HeaderLaws.{mark-most}
+use Rattle.ash.proofs.HeaderLaws.{granted-most}
 use Rattle.ash.proofs.UnstuffLaws.{unstuff-byte, unstuff-fault, unstuff-cut, unstuff-none, Held, nothing-held, one-more, all-held, stopped}
 use Rattle.ash.proofs.stuffing.unstuff.Statement.{statement}
 use Rattle.ash.proofs.stuffing.unstuff.Tie as tie
@@ -33,7 +33,7 @@ add-at : tie.Need-add-at Inv-loop μ-loop
 add-at c =
     let loop = c .before .before .before .loop in
     let sent = c .before .before .before .before .before .before .args .sent .now in
-    omega (arith, c .escape-size .ensures, mark-most (eqb (getD sent (loop .i) 0) escapeByte) 1)
+    omega (arith, c .escape-size .ensures, granted-most (eqb (getD sent (loop .i) 0) escapeByte) 1)
 
 same-length : tie.Need-same-length Inv-loop μ-loop
 same-length c = c .before .before .before .before .loop .inv .2

@@ -7,8 +7,6 @@
 // of h1 and h2, `t` a number of ticks after the update of case 6, `u` the same and that update again.
 mod boards;
 
-ghost use mathlib.Core.Path.{_≡_};
-ghost use Rattle.rows.specs.Rows.{tickBoard};
 use boards::case_6;
 use boards::show_list;
 use boards::show_reading;
@@ -73,20 +71,11 @@ fn show_number(number: i64) {
     print::text(b"\n");
 }
 
-// The board, lent for one tick.
-fn lent(board: Board) -> Board
-    ensures { λ r. ⌜ r ≡ tickBoard board ⌝ }
-{
-    let mut own = board;
-    rows::tick_in_place(&mut own);
-    own
-}
-
 fn ticked(board: Board, ticks: u32) -> Board {
     let mut next = board;
     let mut i: u32 = 0;
     while i < ticks {
-        next = lent(next);
+        next = rows::lent_tick(next);
         i += 1;
     }
     next

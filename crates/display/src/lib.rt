@@ -41,12 +41,12 @@ pub fn start(board: Board) -> Display
     Display { link, board }
 }
 
-// A minute has passed.
+// A minute has passed: the board is lent for one tick.
 pub fn tick(display: Display) -> Display
     ensures { λ r. ⌜ r ≡ tickDisplay display ⌝ }
 {
     let link = display.link;
-    let board = rows::tick(display.board);
+    let board = rows::lent_tick(display.board);
     Display { link, board }
 }
 

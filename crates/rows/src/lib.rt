@@ -60,6 +60,15 @@ pub fn tick_in_place(board: &mut Board)
     *board = tick(*board);
 }
 
+// The board after a tick for which it is lent: what the display runs each minute.
+pub fn lent_tick(board: Board) -> Board
+    ensures { λ r. ⌜ r ≡ tickBoard board ⌝ }
+{
+    let mut own = board;
+    tick_in_place(&mut own);
+    own
+}
+
 fn tick_row(row: Row) -> Row
     ensures { λ r. ⌜ r ≡ tickRow row ⌝ }
 {

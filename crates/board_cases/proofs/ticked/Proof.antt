@@ -13,8 +13,8 @@ abbrev μ-loop : tie.MeasureT-loop
 loop-holds : tie.Need-loop-holds Inv-loop μ-loop
 loop-holds c = omega arith
 
-lent-requires : tie.Need-lent-requires Inv-loop μ-loop
-lent-requires c κs = tt
+lent-tick-requires : tie.Need-lent-tick-requires Inv-loop μ-loop
+lent-tick-requires c κs = tt
 
 add-i : tie.Need-add-i Inv-loop μ-loop
 add-i c = omega arith
@@ -31,4 +31,4 @@ returns c = tt
 pub ticked-spec : {M : Type 1} → statement M
 ticked-spec =
     tie.close
-    (tie.spec Inv-loop μ-loop loop-holds lent-requires add-i loop-less loop-again returns)
+    (tie.spec Inv-loop μ-loop loop-holds lent-tick-requires add-i loop-less loop-again returns)

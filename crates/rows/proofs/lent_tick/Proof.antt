@@ -1,4 +1,4 @@
--- `board_cases::lent` meets its contract: while the call lasts its own board is lent, and what comes back is what
+-- `rows::lent_tick` meets its contract: while the call lasts its own board is lent, and what comes back is what
 -- `tick_in_place` promises of it. A walk by hand over five locals: `_0` the answer, `_1` the board given, `_2` its own board,
 -- `_3` the answer of the call, `_4` the reference. It names no field of the board.
 use mathlib.Core.Path.{_≡_, refl, sym, ap, subst}
@@ -39,17 +39,17 @@ use denote.Triple.Spec.{Meets, tripleOf}
 use denote.Triple.Table.{entered, cited}
 use denote.Triple.Walked.{says, Stays, stay-none, walkOf, goes-none, Walks, ends-at, walked, walk-meets}
 use denote.Triple.Clauses.{ensured}
 use Rattle.rows.specs.declared.Board.{Board}
 use Rattle.rows.specs.Rows.{tickBoard}
 use Rattle.rows.proofs.Board as board
 use Rattle.rows.proofs.Board.Laws as board-laws
 use Rattle.rows.proofs.tick_in_place as tick
 use Rattle.rows.proofs.tick_in_place.Symbol as tick-symbol
 use Rattle.rows.proofs.tick_in_place.Met as tick-met
-use Rattle.board_cases.proofs.lent.Key.{name as own-key}
-use Rattle.board_cases.proofs.lent as lent
-use Rattle.board_cases.proofs.lent.Statement as stated
-use Rattle.board_cases.proofs.lent.Code as code
+use Rattle.rows.proofs.lent_tick.Key.{name as own-key}
+use Rattle.rows.proofs.lent_tick as lent
+use Rattle.rows.proofs.lent_tick.Statement as stated
+use Rattle.rows.proofs.lent_tick.Code as code
 
 -- the machine's value of a board
 abbrev word : Board → Val
@@ -181,9 +181,9 @@ module _ {M : Type 1} (𝓤 : URA M) (H : Heap 𝓤) (A : Atoms 𝓤) (W : Given
       walk-meets 𝓤 H A lent.ended stays W (goes-none 𝓤 H A W 0 (λ _. board.the-row) yes (λ κs x f. refl), tt) (lent.clauses 𝓤 H A memory run) (WpFn 𝓤 H (𝓣 .C) (𝓣 .Λ) code.function)
       (WpFn-mono 𝓤 H (W .laws) 𝓣 code.function) (walks (𝓣 .C) (𝓣 .Λ) (fmOf 𝓤 H (W .laws) 𝓣) met)
 
-pub lent-spec : {M : Type 1} → stated.statement M
+pub lent-tick-spec : {M : Type 1} → stated.statement M
 unfolding code.routine tablesOf
-lent-spec 𝓤 H 𝓜 𝓖 𝓡 =
+lent-tick-spec 𝓤 H 𝓜 𝓖 𝓡 =
     entered 𝓤 H (tripleOf 𝓤 H (𝓖 .A) lent.signature (lent.spec 𝓤 H (𝓖 .A) (𝓜 .mem) (𝓡 .run)))
     (tables 𝓤 H 𝓜 𝓡 code.env .C) (tables 𝓤 H 𝓜 𝓡 code.env .Λ) own-key code.function (code.unfolded 𝓤 H 𝓜 𝓡)
     (meets 𝓤 H (𝓖 .A) (givenOf 𝓤 H 𝓜 𝓖) (𝓜 .mem) (𝓡 .run) (tablesOf 𝓤 H 𝓜 (tables 𝓤 H 𝓜 𝓡 code.env))

@@ -1,6 +1,6 @@
 -- 01, The board: "The watch list is stored as tagged fields: one-byte tag, two-byte length (high byte first), value. Tag 01 is a
 -- name. At most 16 names, 0 allowed, no name twice; a bad name, another tag or a cut field is refusal 15 too."
-use Prim.Native.Nat.{ℕ, zero, suc, _≤_}
+use Prim.Native.Nat.{ℕ, zero, suc, _/_, _%_, _≤_}
 use mathlib.Core.Path.{_≡_}
 use mathlib.Core.Bool.{Bool, true, cond, not, _&&_}
 use mathlib.Core.List.{List, [], _∷_, _++_}
@@ -56,6 +56,14 @@ namesFrom (suc skip) names (byte ∷ rest) = namesFrom skip names rest
 -- the names of a watch list, in its order, or none where it is refused
 abbrev pub watchNames : List ℕ → Option (List (List ℕ))
 watchNames fields = namesFrom 0 [] fields
+
+-- a name as a field, and names as a list of fields
+abbrev pub nameField : List ℕ → List ℕ
+nameField name = 0x01 ∷ length name / 256 ∷ length name % 256 ∷ name
+
+unfoldable pub fieldsOf : List (List ℕ) → List ℕ
+fieldsOf [] = []
+fieldsOf (name ∷ names) = nameField name ++ fieldsOf names
 
 -- the length of the name that the fields begin with, or none where they begin with another field or a cut one
 unfoldable pub fieldOf : List ℕ → Option ℕ

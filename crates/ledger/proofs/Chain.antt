@@ -1,19 +1,18 @@
 -- A chain of calls: each is given what the last one left, and meets the contract of the function that runs. The contracts are those
 -- that the toolchain reads off the source (`Learnt`, `Asked`), so a contract that says less breaks what is built on this.
 use mathlib.Core.Path.{_≡_, refl}
-use mathlib.Core.List.{List, [], _∷_}
-use mathlib.Core.Option.{some}
+use mathlib.Core.List.{List, [], _∷_, _++_}
 use Prim.Native.Nat.{ℕ}
 use lib.ListN.{length}
 use denote.Ref.{RefT}
 use contract.Lifetimes.{Lfts}
 use Rattle.slices.specs.Put.{putAt}
-use Rattle.rows.specs.Rows.{boardOf}
-use Rattle.board.specs.WatchList.{watchNames, asWatched}
+use Rattle.rows.specs.declared.Board.{Board}
+use Rattle.rows.proofs.fresh.Reads as fresh
 use Rattle.board.specs.declared.list.Listed.the-variants.{Accepted}
 use Rattle.board.specs.declared.list.Watched.{Watched}
+use Rattle.board.proofs.watch.Reads as watch
 use Rattle.board.proofs.watch_list.Reads as watch-list
-use Rattle.display.specs.Display as display
 use Rattle.display.specs.Display.{receivePiece, DisplaysAs, tickDisplay}
 use Rattle.display.specs.declared.Display.{Display}
 use Rattle.display.specs.declared.Received.{Received}
@@ -21,7 +20,7 @@ use Rattle.display.proofs.receive.Reads as receive
 use Rattle.display.proofs.start.Reads as start
 use Rattle.display.proofs.tick.Reads as tick
 use Rattle.ledger.specs.Answers as answers
-use Rattle.ledger.specs.Answers.{Call}
+use Rattle.ledger.specs.Answers.{WatchList, as-bytes, one-by-one, Call}
 use Rattle.ledger.specs.Shown.{Left, took, ticked}
 
 -- one call of `display::receive`: the slices lent hold the piece and the buffers as they were, and at exit the buffers as they are
@@ -44,15 +43,33 @@ pub record Receives (d : Display) (bytes reply packet : List ℕ) (result : Rece
 abbrev pub Ticks : Display → Display → Type 0
 Ticks d d₁ = tick.Learnt tt (d, tt) d₁ (d, tt)
 
--- a fresh start: `board::watch_list` accepted the list, and `display::start` was given its board
-pub record Begins (fields : List ℕ) (d : Display) : Type 0 where
+-- one call of `display::start`
+abbrev pub Starts : Board → Display → Type 0
+Starts board d = start.Learnt tt (board, tt) d (board, tt)
+
+-- one call of `board::watch` with a name
+pub record Watches (board : Board) (name : List ℕ) (watched : Watched) : Type 0 where
+  pub lifetimes : Lfts 1
+  pub lent-name : RefT (List ℕ)
+  pub name-is : lent-name .now ≡ name
+  pub learnt : watch.Learnt lifetimes (board, (lent-name, tt)) watched (board, (lent-name, tt))
+
+-- one call of `board::watch_list`
+pub record Lists (fields : List ℕ) (watched : Watched) : Type 0 where
   pub lifetimes : Lfts 1
   pub lent-list : RefT (List ℕ)
   pub list-is : lent-list .now ≡ fields
-  pub watched : Watched
-  pub listed : watch-list.Learnt lifetimes (lent-list, tt) watched (lent-list, tt)
-  pub accepted : watched .answer ≡ Accepted
-  pub started : start.Learnt tt (watched .board, tt) d (watched .board, tt)
+  pub learnt : watch-list.Learnt lifetimes (lent-list, tt) watched (lent-list, tt)
+
+-- A fresh start. A list as bytes: `board::watch_list` accepted it, and `display::start` was given its board. Names one at a time, as
+-- `replay` takes them: `rows::fresh`, then `board::watch` accepted each name on the board of those before it, and `display::start` was
+-- given the board each time.
+pub data Begins : WatchList → Display → Type 0 where
+  from-bytes : {fields : List ℕ} {watched : Watched} {d : Display} → Lists fields watched → watched .answer ≡ Accepted → Starts (watched .board) d
+      → Begins (as-bytes fields) d
+  no-names : {board : Board} {d : Display} → fresh.Learnt tt tt board tt → Starts board d → Begins (one-by-one []) d
+  one-more : {names : List (List ℕ)} {name : List ℕ} {watched : Watched} {d d₁ : Display} → Begins (one-by-one names) d → Watches (d .board) name watched
+      → watched .answer ≡ Accepted → Starts (watched .board) d₁ → Begins (one-by-one (names ++ (name ∷ []))) d₁
 
 pub data Chain : Display → List Call → List Left → Display → Type 0 where
   done : {d : Display} → Chain d [] [] d
@@ -66,8 +83,8 @@ pub received : {d : Display} {bytes reply packet reply₁ packet₁ : List ℕ} 
     → DisplaysAs (receivePiece d bytes (length reply) (length packet)) reply packet result reply₁ packet₁
 received r = rw (r .piece-is, r .reply-was, r .packet-was, r .reply-is, r .packet-is) at (r .learnt)
 
--- The theorem is about something: from every fresh start there is a chain for every list of calls.
-abbrev slice : List ℕ → RefT (List ℕ)
+-- The theorems are about something: from every fresh start there is a chain for every list of calls.
+abbrev pub slice : List ℕ → RefT (List ℕ)
 slice bytes = record { ptr = (0, 0); name = 0; now = bytes }
 
 pub record Runs (d : Display) (cs : List Call) : Type 0 where
@@ -106,18 +123,6 @@ every-list-runs d (answers.tick ∷ cs) =
     let rest = every-list-runs (tickDisplay d) cs in
     record { left = ticked ∷ rest .left; end = rest .end; chain = ticks refl (rest .chain) }
 
-pub every-list-begins : (fields : List ℕ) (names : List (List ℕ)) → watchNames fields ≡ some names → Begins fields (display.fresh (boardOf names))
-every-list-begins fields names e =
-    record {
-      lifetimes = ([], tt);
-      lent-list = slice fields;
-      list-is = refl;
-      watched = asWatched (some names);
-      listed = rw e;
-      accepted = refl;
-      started = refl;
-    }
-
 -- Nothing is asked before the next call, whatever came before it.
 pub next-piece : (d : Display) (lifetimes : Lfts 3) (lent-piece lent-reply lent-packet : RefT (List ℕ))
     → receive.Asked lifetimes (d, (lent-piece, (lent-reply, (lent-packet, tt))))
@@ -125,3 +130,9 @@ next-piece d lifetimes lent-piece lent-reply lent-packet = tt
 
 pub next-tick : (d : Display) → tick.Asked tt (d, tt)
 next-tick d = tt
+
+-- one list of calls behind the other
+pub chain-append : {d e f : Display} {cs ds : List Call} {left more : List Left} → Chain d cs left e → Chain e ds more f → Chain d (cs ++ ds) (left ++ more) f
+chain-append done rest = rest
+chain-append (receives r c) rest = receives r (chain-append c rest)
+chain-append (ticks t c) rest = ticks t (chain-append c rest)

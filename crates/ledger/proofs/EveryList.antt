@@ -1,34 +1,32 @@
--- DEMAND 3. For every watch list that is accepted and every list of calls from a fresh start, refused calls among them, the answers
--- and the bytes left in the buffers are the ledger's, call by call, and afterwards the counts and the board are. It holds since a
--- fresh start agrees with the ledger's and each call keeps the agreement.
-use mathlib.Core.Path.{_≡_, refl, sym, ap, ap₂, _∙_, subst⁻¹}
+-- DEMAND 3. For every watch list that is accepted, as bytes or name by name, and every list of calls from a fresh start, refused calls
+-- among them, the answers and the bytes left in the buffers are the ledger's, call by call, and afterwards the counts and the board are.
+-- It holds since a fresh start agrees with the ledger's and each call keeps the agreement.
+use mathlib.Core.Path.{_≡_, refl, ap, ap₂, _∙_, subst⁻¹}
 use mathlib.Core.List.{List, [], _∷_, map}
-use mathlib.Core.Option.{Option, some, none}
+use mathlib.Core.Option.{Option, some}
 use Prim.Native.Nat.{ℕ}
-use native.Mathlib.Omega.{arith}
 use Rattle.rows.specs.Entries as shown
 use Rattle.rows.specs.Entries.{freshEntry, boardShowing}
 use Rattle.rows.specs.Rows.{boardOf}
-use Rattle.board.specs.WatchList.{watchNames, asWatched}
-use Rattle.board.specs.declared.list.Watched.{Watched}
-use Rattle.board.proofs.WatchLaws as watch-laws
+use Rattle.board.specs.WatchList.{Good}
+use Rattle.board.proofs.WatchLaws.{Fits, good-fits}
 use Rattle.rows.proofs.EntryLaws.{fresh-showing}
-use Rattle.board.proofs.EntryLaws.{list-good}
 use Rattle.link.proofs.OursLaws.{ours-fresh}
 use Rattle.display.specs.Display as display
 use Rattle.display.specs.declared.Display.{Display}
 use Rattle.ledger.specs.Ledger.{Entry, Ledger, unheard, nameOf, start}
 use Rattle.ledger.specs.Answers as answers
-use Rattle.ledger.specs.Answers.{Call}
+use Rattle.ledger.specs.Answers.{WatchList, namesIn, Call}
 use Rattle.ledger.specs.Calls.{step, given, after}
 use Rattle.ledger.specs.Shown.{asCounts, asEntry, Left, asLeft}
 use Rattle.ledger.proofs.StepAgreement.{Agrees, piece-agrees, tick-agrees}
 use Rattle.ledger.proofs.Chain.{Begins, Chain, done, receives, ticks, received}
+use Rattle.ledger.proofs.FreshStarts.{began}
 
 -- what the ledger says of a list of calls
-pub record IsLedgers (fields : List ℕ) (cs : List Call) (left : List Left) (end : Display) : Type 0 where
+pub record IsLedgers (w : WatchList) (cs : List Call) (left : List Left) (end : Display) : Type 0 where
   pub names : List (List ℕ)
-  pub watch-list : watchNames fields ≡ some names
+  pub watch-list : namesIn w ≡ some names
   -- the answers and the bytes left in the buffers, call by call
   pub answers : left ≡ map (asLeft names) (given (start names) cs)
   -- each count modulo 65,536
@@ -54,32 +52,12 @@ fresh-agrees names =
       shows = record { showing = fresh-showing names ∙ ap boardShowing (fresh-shown names); named = fresh-named names };
     }
 
--- a fresh start has the names of the list that was accepted
-record Began (fields : List ℕ) (d : Display) : Type 0 where
-  names : List (List ℕ)
-  listed : watchNames fields ≡ some names
-  is : d ≡ display.fresh (boardOf names)
+-- after some calls display and ledger agree, and all that was left is what the ledger gives
+pub record Agreed (names : List (List ℕ)) (l : Ledger) (cs : List Call) (left : List Left) (end : Display) : Type 0 where
+  pub gives : left ≡ map (asLeft names) (given l cs)
+  pub agrees : Agrees names (after l cs) end
 
-began : (fields : List ℕ) (d : Display) → Begins fields d → Began fields d
-began fields d b = cases (watchNames fields) refl
-  where
-    watched-is : b .watched ≡ asWatched (watchNames fields)
-    watched-is = rw (b .list-is) at (b .listed)
-
-    cases : (o : Option (List (List ℕ))) → watchNames fields ≡ o → Began fields d
-    cases none e =
-        let told = watched-is ∙ ap asWatched e in
-        let refused = sym (b .accepted) ∙ ap (λ (w : Watched). w .answer) told in
-        let z : _≡_ {A = ℕ} 0 1 = cc in absurd (omega arith)
-    cases (some names) e =
-        let board-is = ap (λ (w : Watched). w .board) (watched-is ∙ ap asWatched e) in
-        record { names = names; listed = e; is = b .started ∙ ap display.fresh board-is }
-
-record Agreed (names : List (List ℕ)) (l : Ledger) (cs : List Call) (left : List Left) (end : Display) : Type 0 where
-  gives : left ≡ map (asLeft names) (given l cs)
-  agrees : Agrees names (after l cs) end
-
-chain-agrees : (names : List (List ℕ)) → watch-laws.Fits names → (l : Ledger) {d end : Display} {cs : List Call} {left : List Left}
+pub chain-agrees : (names : List (List ℕ)) → Fits names → (l : Ledger) {d end : Display} {cs : List Call} {left : List Left}
     → Chain d cs left end → Agrees names l d → Agreed names l cs left end
 unfolding given after
 chain-agrees names fit l done a = record { gives = refl; agrees = a }
@@ -92,17 +70,40 @@ chain-agrees names fit l (ticks {d = d} t rest) a =
     let more = chain-agrees names fit (step l answers.tick .ledger) rest (rw t (first .agrees)) in
     record { gives = ap₂ (λ (x : Left) (xs : List Left). x ∷ xs) (first .gives) (more .gives); agrees = more .agrees }
 
+-- the names of a fresh start are those of its watch list
+same-names : {found : Option (List (List ℕ))} {names names₁ : List (List ℕ)} → found ≡ some names → found ≡ some names₁ → names₁ ≡ names
+same-names a b = cc
+
+-- names, and a list of calls from a fresh start with them
+pub record Agreeing (names : List (List ℕ)) (cs : List Call) (left : List Left) (end : Display) : Type 0 where
+  pub good : Good names
+  pub fit : Fits names
+  pub all : Agreed names (start names) cs left end
+
+pub agreeing : {w : WatchList} {names : List (List ℕ)} → namesIn w ≡ some names → {d end : Display} → Begins w d → {cs : List Call} {left : List Left}
+    → Chain d cs left end → Agreeing names cs left end
+agreeing {w = w} {names = names} listed {d = d} begins chain =
+    let b = began w d begins in
+    let same = same-names listed (b .listed) in
+    let good = rw same at (b .good) in
+    let fit = good-fits names (good .valid) in
+    let is : d ≡ display.fresh (boardOf names) = b .is ∙ ap (λ (ns : List (List ℕ)). display.fresh (boardOf ns)) same in
+    record {
+      good = good;
+      fit = fit;
+      all = chain-agrees names fit (start names) chain (subst⁻¹ (λ (x : Display). Agrees names (start names) x) is (fresh-agrees names));
+    }
+
 -- THEOREM. Every list of calls is the ledger's.
-pub every-list : (fields : List ℕ) (d : Display) → Begins fields d → (cs : List Call) (left : List Left) (end : Display) → Chain d cs left end
-    → IsLedgers fields cs left end
-every-list fields d begins cs left end chain =
-    let b = began fields d begins in
-    let ours = list-good fields (b .names) (b .listed) in
-    let all = chain-agrees (b .names) (watch-laws.good-fits (b .names) (ours .valid)) (start (b .names)) chain (subst⁻¹ (λ (x : Display). Agrees (b .names) (start (b .names)) x) (b .is) (fresh-agrees (b .names))) in
+pub every-list : (w : WatchList) (d : Display) → Begins w d → (cs : List Call) (left : List Left) (end : Display) → Chain d cs left end
+    → IsLedgers w cs left end
+every-list w d begins cs left end chain =
+    let b = began w d begins in
+    let agreed = agreeing (b .listed) begins chain .all in
     record {
       names = b .names;
       watch-list = b .listed;
-      answers = all .gives;
-      counts = all .agrees .counts-are;
-      board = all .agrees .shows .showing;
+      answers = agreed .gives;
+      counts = agreed .agrees .counts-are;
+      board = agreed .agrees .shows .showing;
     }

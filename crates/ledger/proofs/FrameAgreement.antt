@@ -15,7 +15,7 @@ use Rattle.rows.specs.Rows.{rowCount, rowNames, watched, updateBoard}
 use Rattle.rows.specs.declared.Board.{Board}
 use Rattle.rows.proofs.EntryLaws.{Named, showing-names, update-showing}
 use Rattle.board.specs.Reading as reading
-use Rattle.board.specs.Reading.{Verdict, readingOf}
+use Rattle.board.specs.Reading.{Verdict, readingOf, readBoard}
 use Rattle.board.specs.declared.reading.Reading as declared-reading
 use Rattle.board.specs.declared.reading.Answer.the-variants as board-says
 use Rattle.board.proofs.WatchLaws.{Fits}
@@ -214,6 +214,13 @@ module _ (names : List (List ℕ)) (fit : Fits names) (w : Walk) (l : Ledger) (b
         by-verdict (reading.update name value) e =
             let watching = ap (λ (ns : List (List ℕ)). readingOf ns payload) watched-is ∙ e in
             by-row name value (update-there board payload name value watching) watching e
+
+    -- so what the board makes of the packet is what the ledger makes of it
+    pub read-shown : readBoard board payload .board ≡ boardShowing (map asEntry (calls.newFrame l sequence payload .ledger .entries))
+    read-shown = new-agrees .shows .showing
+
+    pub read-answered : readBoard board payload .answer ≡ asReading names (calls.readingBy l payload)
+    read-answered = let same = new-agrees .answers in cc
 
   same-repeats : (last : Option ℕ) (sequence : ℕ) → repeats (asLast last) sequence ≡ repeated last sequence
   same-repeats none sequence = refl

@@ -1,14 +1,16 @@
 -- What a call handed out stands at the start of the buffers, as long as the answer says: an acknowledgement has at most the nine bytes
--- that a reply buffer has, and a payload at most the 383 of a packet buffer.
-use mathlib.Core.Path.{_≡_, refl, ap, ap₂}
+-- that a reply buffer has, and a payload at most the 383 of a packet buffer. So all that a list of calls handed out, and all that it
+-- told, is settled by what the ledger tells.
+use mathlib.Core.Path.{_≡_, refl, sym, ap, ap₂, _∙_}
 use mathlib.Core.Bool.{Bool, true, false, cond, _||_}
-use mathlib.Core.List.{List, [], _∷_, _++_, map}
+use mathlib.Core.List.{List, [], _∷_, _++_, map, map-append, append-assoc}
 use mathlib.Core.Option.{Option, some, none}
 use Prim.Native.Nat.{ℕ, _≤_}
 use native.Mathlib.Omega.{arith}
 use lib.Dec.{eqb, ltb}
 use lib.ListN.{length, take}
 use borrow.Author.Tests.{ltb-false}
+use Rattle.refusals.specs.Numbers.{shortOutput}
 use Rattle.slices.specs.Put.{putAt}
 use Rattle.slices.proofs.PutLaws.{put-first}
 use Rattle.frame.specs.Content as content
@@ -16,15 +18,31 @@ use Rattle.frame.specs.Reading.{readRun}
 use Rattle.frame.proofs.FrameTheorems.{run-bounded}
 use Rattle.link.specs.Closing.{acknowledgement}
 use Rattle.link.proofs.ClosingLaws.{acknowledgement-fits}
+use Rattle.display.specs.declared.Answer as display-answer
+use Rattle.display.specs.declared.Answer.the-variants.{Refused}
 use Rattle.ledger.specs.Ledger.{Ledger}
 use Rattle.ledger.specs.Frames as frames
 use Rattle.ledger.specs.Frames.{Frame, taken, byType, frameOf}
 use Rattle.ledger.specs.Answers as answers
-use Rattle.ledger.specs.Answers.{Call}
+use Rattle.ledger.specs.Answers.{Call, Given, Answer}
 use Rattle.ledger.specs.Calls as calls
 use Rattle.ledger.specs.Calls.{Effect, answerTo, repeated, closed, effectOf, withRun, pieceStep, shortStep, step, given}
-use Rattle.ledger.specs.History.{Handed, handedBy, handedIn, handedOut}
-use Rattle.ledger.specs.Shown.{asAnswer, asLeft, handedAs, handedLeft, allHanded}
+use Rattle.ledger.specs.Shown.{asAnswer, asLeft}
+use Rattle.ledger.specs.History.{Handed, handedAs, handedLeft, allHanded, toldAs, toldLeft, allTold}
+use Rattle.ledger.proofs.ByEvents.{toldBy}
+use Rattle.ledger.proofs.HistoryLaws.{toldIn, toldOut}
+
+-- what the ledger hands out with an answer
+abbrev pub handedBy : Answer → List Handed
+handedBy answers.nothing = []
+handedBy (answers.refused n) = []
+handedBy (answers.heard sequence) = []
+handedBy (answers.again sequence) = record { reply = answerTo sequence; packet = none } ∷ []
+handedBy (answers.new sequence payload verdict) = record { reply = answerTo sequence; packet = some payload } ∷ []
+
+abbrev pub handedIn : Given → List Handed
+handedIn (answers.took n answer reply packet) = handedBy answer
+handedIn answers.ticked = []
 
 -- a good data frame has at most 383 bytes of payload
 payload-bounded : (run : List ℕ) (sequence : ℕ) (payload : List ℕ) → frameOf run ≡ frames.good sequence payload → length payload ≤ 383
@@ -70,7 +88,7 @@ module _ (names : List (List ℕ)) (l : Ledger) (reply packet : List ℕ) (reply
   effect-handed none = refl
   effect-handed (some run) = frame-handed (frameOf run) (payload-bounded run)
 
-step-handed : (names : List (List ℕ)) (l : Ledger) (c : Call) → handedLeft (asLeft names (step l c .given)) ≡ handedIn (step l c .given)
+pub step-handed : (names : List (List ℕ)) (l : Ledger) (c : Call) → handedLeft (asLeft names (step l c .given)) ≡ handedIn (step l c .given)
 unfolding step
 step-handed names l (answers.piece bytes reply packet) = by-room (ltb (length reply) 9) (ltb (length packet) 383) refl refl
   where
@@ -84,8 +102,60 @@ step-handed names l (answers.piece bytes reply packet) = by-room (ltb (length re
         effect-handed names (withRun l (t .run)) reply packet (ltb-false (length reply) 9 e) (ltb-false (length packet) 383 f) (t .frame)
 step-handed names l answers.tick = refl
 
--- all that a list of calls handed out is what the ledger hands out
-pub all-handed : (names : List (List ℕ)) (l : Ledger) (cs : List Call) → allHanded (map (asLeft names) (given l cs)) ≡ handedOut l cs
-unfolding allHanded given handedOut
-all-handed names l [] = refl
-all-handed names l (c ∷ cs) = ap₂ (λ (x y : List Handed). x ++ y) (step-handed names l c) (all-handed names (step l c .ledger) cs)
+-- with all that is told it is settled what is handed out
+unfoldable pub handedWith : List Answer → List Handed
+handedWith [] = []
+handedWith (a ∷ more) = handedBy a ++ handedWith more
+
+handed-append : (xs ys : List Answer) → handedWith (xs ++ ys) ≡ handedWith xs ++ handedWith ys
+unfolding handedWith
+handed-append [] ys = refl
+handed-append (x ∷ xs) ys = ap (λ (r : List Handed). handedBy x ++ r) (handed-append xs ys) ∙ sym (append-assoc (handedBy x) (handedWith xs) (handedWith ys))
+
+told-handed : (a : Answer) → handedBy a ≡ handedWith (toldBy a)
+unfolding handedWith
+told-handed answers.nothing = refl
+told-handed (answers.refused n) = by-number (eqb n shortOutput)
+  where
+    by-number : (t : Bool) → [] ≡ handedWith (cond t [] (answers.refused n ∷ []))
+    by-number true = refl
+    by-number false = refl
+told-handed (answers.heard sequence) = refl
+told-handed (answers.again sequence) = refl
+told-handed (answers.new sequence payload verdict) = refl
+
+given-handed : (g : Given) → handedIn g ≡ handedWith (toldIn g)
+unfolding handedWith
+given-handed (answers.took n answer reply packet) = told-handed answer
+given-handed answers.ticked = refl
+
+module _ (names : List (List ℕ)) where
+  pub all-handed : (l : Ledger) (cs : List Call) → allHanded (map (asLeft names) (given l cs)) ≡ handedWith (toldOut names l cs)
+  unfolding allHanded given toldOut handedWith
+  all-handed l [] = refl
+  all-handed l (c ∷ cs) =
+      ap₂ (λ (x y : List Handed). x ++ y) (step-handed names l c ∙ given-handed (step l c .given)) (all-handed (step l c .ledger) cs)
+      ∙ sym (handed-append (toldIn (step l c .given)) (toldOut names (step l c .ledger) cs))
+
+  -- what the software tells of an answer
+  answer-told : (a : Answer) → toldAs (asAnswer names a) ≡ map (asAnswer names) (toldBy a)
+  answer-told answers.nothing = refl
+  answer-told (answers.refused n) = by-number (eqb n shortOutput)
+    where
+      by-number : (t : Bool) → cond t [] (Refused n ∷ []) ≡ map (asAnswer names) (cond t [] (answers.refused n ∷ []))
+      by-number true = refl
+      by-number false = refl
+  answer-told (answers.heard sequence) = refl
+  answer-told (answers.again sequence) = refl
+  answer-told (answers.new sequence payload verdict) = refl
+
+  given-told : (g : Given) → toldLeft (asLeft names g) ≡ map (asAnswer names) (toldIn g)
+  given-told (answers.took n answer reply packet) = answer-told answer
+  given-told answers.ticked = refl
+
+  pub all-told : (l : Ledger) (cs : List Call) → allTold (map (asLeft names) (given l cs)) ≡ map (asAnswer names) (toldOut names l cs)
+  unfolding allTold given toldOut
+  all-told l [] = refl
+  all-told l (c ∷ cs) =
+      ap₂ (λ (x y : List display-answer.Answer). x ++ y) (given-told (step l c .given)) (all-told (step l c .ledger) cs)
+      ∙ sym (map-append (asAnswer names) (toldIn (step l c .given)) (toldOut names (step l c .ledger) cs))

@@ -4,7 +4,13 @@ pub mod RowAgreement
 pub mod FrameAgreement
 pub mod StepAgreement
 pub mod Chain
+pub mod FreshStarts
 pub mod EveryList
+pub mod ByEvents
 pub mod HistoryLaws
 pub mod HandedLaws
-pub mod OwnersWords
+pub mod SameHistory
+pub mod AtOnce
+pub mod UpdateLaws
+pub mod LastAcceptedLaws
+pub mod CurrentWhen

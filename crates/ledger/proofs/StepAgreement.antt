@@ -57,7 +57,7 @@ read-run-kept l (reading.refused n) = refl
 read-run-kept l reading.endMark = refl
 read-run-kept l (reading.update name value) = refl
 
-run-kept : (l : Ledger) (f : Frame) → closed l f .ledger .run ≡ l .run
+pub run-kept : (l : Ledger) (f : Frame) → closed l f .ledger .run ≡ l .run
 run-kept l (frames.refused n) = refl
 run-kept l (frames.acknowledgement sequence) = refl
 run-kept l (frames.good sequence payload) = cases (calls.repeated (l .sequence) sequence)

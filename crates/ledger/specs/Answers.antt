@@ -1,7 +1,18 @@
--- 01, The ledger: what a call is, and what it is given.
+-- 01, The ledger: where a list of calls starts, what a call is, and what it is given.
 use Prim.Native.Nat.{ℕ}
 use mathlib.Core.List.{List}
+use mathlib.Core.Option.{Option, some}
 use Rattle.board.specs.Reading.{Verdict}
+use Rattle.board.specs.WatchList.{watchNames}
+
+-- a fresh board of any watch list: its bytes, or its names one at a time, as a history has them
+pub data WatchList : Type 0 where
+  as-bytes : List ℕ → WatchList
+  one-by-one : List (List ℕ) → WatchList
+
+abbrev pub namesIn : WatchList → Option (List (List ℕ))
+namesIn (as-bytes fields) = watchNames fields
+namesIn (one-by-one names) = some names
 
 -- a piece with its two buffers, or a tick
 pub data Call : Type 0 where

@@ -1,96 +1,67 @@
--- 01, The ledger: the history is the bytes taken and the ticks, in order. What it alone settles, wherever the pieces were cut.
+-- 01, The ledger: the history is the bytes taken and the ticks, in order, as the calls took them; and what they handed out and told.
 use Prim.Native.Nat.{ℕ}
 use mathlib.Core.Bool.{cond}
 use mathlib.Core.List.{List, [], _∷_, _++_, map}
 use mathlib.Core.Option.{Option, some, none}
+use lib.Dec.{eqb}
 use lib.ListN.{take}
-use Rattle.slices.specs.Same.{sameBytes}
-use Rattle.board.specs.Reading as reading
-use Rattle.board.specs.Reading.{Verdict}
-use Rattle.ledger.specs.Ledger.{Ledger, Update, older, olderEntry}
-use Rattle.ledger.specs.Frames.{Turn, goes-on, closes, turn, frameOf}
+use Rattle.refusals.specs.Numbers.{shortOutput}
+use Rattle.display.specs.declared.Answer.{Answer}
+use Rattle.display.specs.declared.Answer.the-variants.{Nothing, Refused, Heard, Again, New}
 use Rattle.ledger.specs.Answers as answers
-use Rattle.ledger.specs.Calls as calls
-use Rattle.ledger.specs.Answers.{Call, Given, Answer}
-use Rattle.ledger.specs.Calls.{closed, withRun, step}
+use Rattle.ledger.specs.Answers.{Call}
+use Rattle.ledger.specs.Shown.{Left, took, ticked}
 
 pub data Event : Type 0 where
   byte : ℕ → Event
   minute : Event
 
--- what one call adds to the history
-abbrev pub eventsOf : Call → Given → List Event
-eventsOf (answers.piece bytes reply packet) (answers.took n answer reply₁ packet₁) = map byte (take n bytes)
-eventsOf (answers.piece bytes reply packet) answers.ticked = []
-eventsOf answers.tick given = minute ∷ []
+-- what one call adds to the history: of a piece the bytes that were taken
+abbrev pub eventsOf : Call → Left → List Event
+eventsOf (answers.piece bytes reply packet) (took n answer reply₁ packet₁) = map byte (take n bytes)
+eventsOf (answers.piece bytes reply packet) ticked = []
+eventsOf answers.tick left = minute ∷ []
 
-unfoldable pub history : Ledger → List Call → List Event
-history l [] = []
-history l (c ∷ cs) = eventsOf c (step l c .given) ++ history (step l c .ledger) cs
+unfoldable pub history : List Call → List Left → List Event
+history [] left = []
+history (c ∷ cs) [] = []
+history (c ∷ cs) (l ∷ left) = eventsOf c l ++ history cs left
 
 -- what is handed out: a reply, and with a new packet its payload
 pub record Handed : Type 0 where
   pub reply : List ℕ
   pub packet : Option (List ℕ)
 
-abbrev pub handedBy : Answer → List Handed
-handedBy answers.nothing = []
-handedBy (answers.refused n) = []
-handedBy (answers.heard sequence) = []
-handedBy (answers.again sequence) = record { reply = calls.answerTo sequence; packet = none } ∷ []
-handedBy (answers.new sequence payload verdict) = record { reply = calls.answerTo sequence; packet = some payload } ∷ []
+-- it stands at the start of the buffers, as long as the answer says
+abbrev pub handedAs : Answer → List ℕ → List ℕ → List Handed
+handedAs Nothing reply packet = []
+handedAs (Refused n) reply packet = []
+handedAs (Heard sequence) reply packet = []
+handedAs (Again replied) reply packet = record { reply = take replied reply; packet = none } ∷ []
+handedAs (New replied size verdict) reply packet = record { reply = take replied reply; packet = some (take size packet) } ∷ []
 
-abbrev pub handedIn : Given → List Handed
-handedIn (answers.took n answer reply packet) = handedBy answer
-handedIn answers.ticked = []
+abbrev pub handedLeft : Left → List Handed
+handedLeft (took n answer reply packet) = handedAs answer reply packet
+handedLeft ticked = []
 
 -- all replies and packets of a list of calls, in order
-unfoldable pub handedOut : Ledger → List Call → List Handed
-handedOut l [] = []
-handedOut l (c ∷ cs) = handedIn (step l c .given) ++ handedOut (step l c .ledger) cs
+unfoldable pub allHanded : List Left → List Handed
+allHanded [] = []
+allHanded (left ∷ more) = handedLeft left ++ allHanded more
 
--- one event of the history
-pub record Happening : Type 0 where
-  pub ledger : Ledger
-  pub handed : List Handed
+-- the answers that do not hang on where a piece was cut: all but "nothing", and refusal 7, after which nothing was taken
+abbrev pub toldAs : Answer → List Answer
+toldAs Nothing = []
+toldAs (Refused n) = cond (eqb n shortOutput) [] (Refused n ∷ [])
+toldAs (Heard sequence) = Heard sequence ∷ []
+toldAs (Again replied) = Again replied ∷ []
+toldAs (New replied size verdict) = New replied size verdict ∷ []
 
-abbrev pub atTurn : Ledger → Turn → Happening
-atTurn l (goes-on run) = record { ledger = withRun l run; handed = [] }
-atTurn l (closes run) =
-    record { ledger = closed (withRun l (some [])) (frameOf run) .ledger; handed = handedBy (closed (withRun l (some [])) (frameOf run) .answer) }
+abbrev pub toldLeft : Left → List Answer
+toldLeft (took n answer reply packet) = toldAs answer
+toldLeft ticked = []
 
-abbrev pub happens : Ledger → Event → Happening
-happens l (byte b) = atTurn l (turn (l .run) b)
-happens l minute =
-    record { ledger = record { run = l .run; sequence = l .sequence; counts = l .counts; entries = map olderEntry (l .entries) }; handed = [] }
-
--- the whole history
-unfoldable pub afterHistory : Ledger → List Event → Ledger
-afterHistory l [] = l
-afterHistory l (e ∷ es) = afterHistory (happens l e .ledger) es
-
-unfoldable pub handedInHistory : Ledger → List Event → List Handed
-handedInHistory l [] = []
-handedInHistory l (e ∷ es) = happens l e .handed ++ handedInHistory (happens l e .ledger) es
-
--- The last accepted update of a name, and the ticks since, read off what the calls gave: an update of the name starts anew, a tick is
--- one more.
-abbrev pub byReading : List ℕ → Verdict → Option Update → Option Update
-byReading name (reading.refused n) before = before
-byReading name reading.endMark before = before
-byReading name (reading.update other value) before = cond (sameBytes name other) (some (record { value = value; ticks = 0 })) before
-
-abbrev pub byAnswer : List ℕ → Answer → Option Update → Option Update
-byAnswer name answers.nothing before = before
-byAnswer name (answers.refused n) before = before
-byAnswer name (answers.heard sequence) before = before
-byAnswer name (answers.again sequence) before = before
-byAnswer name (answers.new sequence payload verdict) before = byReading name verdict before
-
-abbrev pub byGiven : List ℕ → Given → Option Update → Option Update
-byGiven name (answers.took n answer reply packet) before = byAnswer name answer before
-byGiven name answers.ticked before = older before
-
-unfoldable pub lastUpdate : List ℕ → List Given → Option Update → Option Update
-lastUpdate name [] before = before
-lastUpdate name (g ∷ gs) before = lastUpdate name gs (byGiven name g before)
+-- all such answers of a list of calls, in order
+unfoldable pub allTold : List Left → List Answer
+allTold [] = []
+allTold (left ∷ more) = toldLeft left ++ allTold more

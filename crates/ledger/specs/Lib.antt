@@ -4,3 +4,5 @@ pub mod Answers
 pub mod Calls
 pub mod Shown
 pub mod History
+pub mod ClosedFrames
+pub mod LastAccepted

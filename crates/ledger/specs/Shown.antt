@@ -1,8 +1,8 @@
 -- How the code says what the ledger says: each count modulo 65,536, the rows as they are shown, the answers as enums.
 use Prim.Native.Nat.{ℕ, _%_}
-use mathlib.Core.List.{List, [], _∷_, _++_, map}
+use mathlib.Core.List.{List, map}
 use mathlib.Core.Option.{Option, some, none}
-use lib.ListN.{length, take}
+use lib.ListN.{length}
 use Rattle.rows.specs.Entries as shown
 use Rattle.rows.specs.Names.{placeOf}
 use Rattle.rows.specs.declared.State.{State}
@@ -17,7 +17,6 @@ use Rattle.display.specs.declared.Answer as display-answer
 use Rattle.ledger.specs.Ledger.{Counts, Entry, Row, never, current, silent, rowOf}
 use Rattle.ledger.specs.Answers as answers
 use Rattle.ledger.specs.Calls.{answerTo}
-use Rattle.ledger.specs.History.{Handed}
 
 -- 01, The shape we want: the value equals the history's count modulo 65,536
 abbrev pub wrapped : ℕ → ℕ
@@ -72,20 +71,3 @@ pub data Left : Type 0 where
 abbrev pub asLeft : List (List ℕ) → answers.Given → Left
 asLeft names (answers.took n answer reply packet) = took n (asAnswer names answer) reply packet
 asLeft names answers.ticked = ticked
-
--- what a call handed out, read off the buffers by the lengths that it answered
-abbrev pub handedAs : display-answer.Answer → List ℕ → List ℕ → List Handed
-handedAs display-answer.the-variants.Nothing reply packet = []
-handedAs (display-answer.the-variants.Refused n) reply packet = []
-handedAs (display-answer.the-variants.Heard sequence) reply packet = []
-handedAs (display-answer.the-variants.Again replied) reply packet = record { reply = take replied reply; packet = none } ∷ []
-handedAs (display-answer.the-variants.New replied size verdict) reply packet =
-    record { reply = take replied reply; packet = some (take size packet) } ∷ []
-
-abbrev pub handedLeft : Left → List Handed
-handedLeft (took n answer reply packet) = handedAs answer reply packet
-handedLeft ticked = []
-
-unfoldable pub allHanded : List Left → List Handed
-allHanded [] = []
-allHanded (left ∷ more) = handedLeft left ++ allHanded more

@@ -78,7 +78,7 @@ place-empty ((byte ∷ bytes) ∷ names) k a h =
     rw e (place-empty names k (suc a) (h .1))
 
 -- from where the names are counted does not matter
-in-shift : (name : List ℕ) (names : List (List ℕ)) (a b : ℕ) → isSome (placeFrom a name names) ≡ isSome (placeFrom b name names)
+pub in-shift : (name : List ℕ) (names : List (List ℕ)) (a b : ℕ) → isSome (placeFrom a name names) ≡ isSome (placeFrom b name names)
 unfolding placeFrom
 in-shift name [] a b = refl
 in-shift name (other ∷ names) a b =

@@ -1,0 +1,192 @@
+-- DEMAND 3, a frame repeated at once: the ledger's last sequence is that of the last data frame in the history, whatever came between, so a
+-- good data frame with it, not 0, is dropped, and every other one is new and read.
+use mathlib.Core.Path.{_≡_, refl, sym, ap, _∙_}
+use mathlib.Core.Bool.{Bool, true, false, cond, _||_}
+use mathlib.Core.List.{List, [], _∷_, _++_, map, append-cancel-left}
+use mathlib.Core.Option.{Option, some, none}
+use Prim.Native.Nat.{ℕ, _-_}
+use native.Mathlib.Omega.{arith}
+use lib.Dec.{eqb, ltb}
+use lib.ListN.{length}
+use borrow.Author.Tests.{eqb-true, eq-eqb, ne-eqb}
+use Rattle.slices.specs.Put.{putAt}
+use Rattle.rows.specs.Entries.{boardShowing}
+use Rattle.board.specs.Reading.{readBoard}
+use Rattle.link.specs.Walk.{Walk, walkOf}
+use Rattle.display.specs.declared.Answer as display-answer
+use Rattle.display.specs.declared.Answer.the-variants.{Again, New}
+use Rattle.display.specs.declared.Display.{Display}
+use Rattle.ledger.specs.Ledger.{Ledger, Entry, start}
+use Rattle.ledger.specs.Frames as frames
+use Rattle.ledger.specs.Frames.{Frame, Taken, taken, frameOf}
+use Rattle.ledger.specs.Answers as given
+use Rattle.ledger.specs.Answers.{WatchList, namesIn, Call, piece}
+use Rattle.ledger.specs.Calls as calls
+use Rattle.ledger.specs.Calls.{Effect, answerTo, repeated, closed, withRun, pieceStep, shortStep, step, after}
+use Rattle.ledger.specs.Shown.{asEntry, asReading, Left, took, asLeft}
+use Rattle.ledger.specs.History.{Event, eventsOf, history}
+use Rattle.ledger.specs.ClosedFrames.{framesFrom, framesIn, Closes, lastSequence}
+use Rattle.ledger.proofs.FrameAgreement.{Shows, read-shown, read-answered}
+use Rattle.ledger.proofs.Chain.{Begins, Chain}
+use Rattle.ledger.proofs.EveryList.{Agreed, chain-agrees, Agreeing, agreeing}
+use Rattle.ledger.proofs.ByEvents.{afterHistory, frames-append, history-sequence}
+use Rattle.ledger.proofs.HistoryLaws.{framesOf, piece-same}
+use Rattle.ledger.proofs.SameHistory.{next-given, after-by}
+
+-- a call that answered a data frame and dropped it: the packet buffer and the board are as they were
+pub record Dropped (sequence : ℕ) (reply packet : List ℕ) (before : Display) (more : Left) (behind : Display) : Type 0 where
+  pub taken : ℕ
+  pub answers : more ≡ took taken (Again (length (answerTo sequence))) (putAt reply 0 (answerTo sequence)) packet
+  pub board : behind .board ≡ before .board
+
+-- one that answered it as new: its payload is handed up, and the board has read it
+pub record ReadAsNew (sequence : ℕ) (payload reply packet : List ℕ) (before : Display) (more : Left) (behind : Display) : Type 0 where
+  pub taken : ℕ
+  pub answers :
+      more
+      ≡ took taken (New (length (answerTo sequence)) (length payload) (readBoard (before .board) payload .answer)) (putAt reply 0 (answerTo sequence))
+      (putAt packet 0 payload)
+  pub board : behind .board ≡ readBoard (before .board) payload .board
+
+-- by the sequence of the last data frame, if there was one
+pub record AtOnce (last : Option ℕ) (sequence : ℕ) (payload reply packet : List ℕ) (before : Display) (more : Left) (behind : Display) : Type 0 where
+  pub repeated : last ≡ some sequence → (sequence ≡ 0 → ⊥) → Dropped sequence reply packet before more behind
+  pub zero : sequence ≡ 0 → ReadAsNew sequence payload reply packet before more behind
+  pub other : (last ≡ some sequence → ⊥) → ReadAsNew sequence payload reply packet before more behind
+
+-- a step that closes a good data frame
+record ClosedBy (l : Ledger) (reply packet : List ℕ) (sequence : ℕ) (payload : List ℕ) (s : calls.Step) : Type 0 where
+  run : Option (List ℕ)
+  count : ℕ
+  gives :
+      s .given
+      ≡ given.took count (closed (withRun l run) (frames.good sequence payload) .answer)
+      (putAt reply 0 (closed (withRun l run) (frames.good sequence payload) .reply))
+      (putAt packet 0 (closed (withRun l run) (frames.good sequence payload) .packet))
+  leaves : s .ledger ≡ closed (withRun l run) (frames.good sequence payload) .ledger
+
+step-closes : (names : List (List ℕ)) (l : Ledger) (bytes reply packet : List ℕ) (sequence : ℕ) (payload : List ℕ)
+    → framesFrom (l .run) (eventsOf (piece bytes reply packet) (asLeft names (step l (piece bytes reply packet) .given))) ≡ frames.good sequence payload ∷ []
+    → ClosedBy l reply packet sequence payload (step l (piece bytes reply packet))
+unfolding step framesFrom
+step-closes names l bytes reply packet sequence payload = by-room (ltb (length reply) 9 || ltb (length packet) 383)
+  where
+    by-frame : (t : Taken) (frame : Option (List ℕ)) → t .frame ≡ frame → framesOf frame ≡ frames.good sequence payload ∷ []
+        → ClosedBy l reply packet sequence payload (pieceStep l t reply packet)
+    by-frame t none f e = let z : _≡_ {A = ℕ} 0 1 = cc in absurd (omega arith)
+    by-frame t (some run) f e =
+        let is : frameOf run ≡ frames.good sequence payload = cc in
+        record { run = t .run; count = t .count; gives = rw (f, is); leaves = rw (f, is) }
+
+    by-room : (t : Bool)
+        → framesFrom (l .run) (eventsOf (piece bytes reply packet) (asLeft names (cond t (shortStep l reply packet) (pieceStep l (taken (l .run) bytes 0) reply packet) .given)))
+        ≡ frames.good sequence payload ∷ []
+        → ClosedBy l reply packet sequence payload (cond t (shortStep l reply packet) (pieceStep l (taken (l .run) bytes 0) reply packet))
+    by-room true e = let z : _≡_ {A = ℕ} 0 1 = cc in absurd (omega arith)
+    by-room false e =
+        let t = taken (l .run) bytes 0 in
+        let all : t .count - 0 ≡ t .count = omega arith in
+        by-frame t (t .frame) refl (sym (rw all at (piece-same bytes l 0 .frames)) ∙ e)
+
+-- what it does, by the last sequence
+repeats : (last : Option ℕ) (sequence : ℕ) → last ≡ some sequence → (sequence ≡ 0 → ⊥) → repeated last sequence ≡ true
+repeats none sequence e more = let z : _≡_ {A = ℕ} 0 1 = cc in absurd (omega arith)
+repeats (some before) sequence e more = let same : sequence ≡ before = cc in rw (ne-eqb sequence 0 more, eq-eqb sequence before same)
+
+zero-new : (last : Option ℕ) (sequence : ℕ) → sequence ≡ 0 → repeated last sequence ≡ false
+zero-new none sequence e = refl
+zero-new (some before) sequence e = rw e
+
+other-new : (last : Option ℕ) (sequence : ℕ) → (last ≡ some sequence → ⊥) → repeated last sequence ≡ false
+other-new none sequence other = refl
+other-new (some before) sequence other = rw (ne-eqb sequence before (λ e. other (ap some (sym e)))) (never (eqb sequence 0))
+  where
+    never : (t : Bool) → cond t false false ≡ false
+    never true = refl
+    never false = refl
+
+module _ (names : List (List ℕ)) (cs : List Call) (left : List Left) (end : Display) (a : Agreeing names cs left end)
+    (bytes reply packet : List ℕ) (more : Left) (end₁ : Display) (next : Chain end (piece bytes reply packet ∷ []) (more ∷ []) end₁)
+    (sequence : ℕ) (payload : List ℕ)
+    (closes : Closes (history cs left) (eventsOf (piece bytes reply packet) more) (frames.good sequence payload)) where
+  abbrev l : Ledger
+  l = after (start names) cs
+
+  abbrev c : Call
+  c = piece bytes reply packet
+
+  one-call : Agreed names l (c ∷ []) (more ∷ []) end₁
+  one-call = chain-agrees names (a .fit) l next (a .all .agrees)
+
+  more-is : more ≡ asLeft names (step l c .given)
+  more-is = next-given names l c more (one-call .gives)
+
+  ledger-is : l ≡ afterHistory (start names) (history cs left)
+  ledger-is = after-by names cs left (a .all .gives)
+
+  last-is : lastSequence (history cs left) ≡ l .sequence
+  last-is = sym (ap (λ (m : Ledger). m .sequence) ledger-is ∙ history-sequence (start names) (history cs left))
+
+  step-is : ClosedBy l reply packet sequence payload (step l c)
+  step-is =
+      let here : framesFrom (afterHistory (start names) (history cs left) .run) (eventsOf c more) ≡ frames.good sequence payload ∷ [] =
+      append-cancel-left (framesIn (history cs left)) _ _ (sym (frames-append (start names) (history cs left) (eventsOf c more)) ∙ closes) in
+      step-closes names l bytes reply packet sequence payload (rw (← ledger-is, more-is) at here)
+
+  board-is : end₁ .board ≡ boardShowing (map asEntry (step l c .ledger .entries))
+  unfolding after
+  board-is = one-call .agrees .shows .showing
+
+  -- by what the frame comes to
+  module _ (e : Effect) (is : closed (withRun l (step-is .run)) (frames.good sequence payload) ≡ e) where
+    left-is : more ≡ asLeft names (given.took (step-is .count) (e .answer) (putAt reply 0 (e .reply)) (putAt packet 0 (e .packet)))
+    left-is =
+        more-is
+        ∙ ap (asLeft names) (step-is .gives)
+        ∙ ap (λ (x : Effect). asLeft names (given.took (step-is .count) (x .answer) (putAt reply 0 (x .reply)) (putAt packet 0 (x .packet)))) is
+
+    shown-is : end₁ .board ≡ boardShowing (map asEntry (e .ledger .entries))
+    shown-is = board-is ∙ ap (λ (m : Ledger). boardShowing (map asEntry (m .entries))) (step-is .leaves ∙ ap (λ (x : Effect). x .ledger) is)
+
+  dropped : repeated (l .sequence) sequence ≡ true → Dropped sequence reply packet end more end₁
+  dropped again =
+      let run = withRun l (step-is .run) in
+      let is : closed run (frames.good sequence payload) ≡ calls.repeatedFrame run sequence = rw again in
+      record {
+        taken = step-is .count;
+        answers = left-is (calls.repeatedFrame run sequence) is;
+        board = shown-is (calls.repeatedFrame run sequence) is ∙ sym (a .all .agrees .shows .showing);
+      }
+
+  read-new : repeated (l .sequence) sequence ≡ false → ReadAsNew sequence payload reply packet end more end₁
+  read-new fresh =
+      let run = withRun l (step-is .run) in
+      let is : closed run (frames.good sequence payload) ≡ calls.newFrame run sequence payload = rw fresh in
+      let walk = walkOf [] (end .link .content) (end .link .reader) 0 in
+      let shows = a .all .agrees .shows in
+      let answered = read-answered names (a .fit) walk run (end .board) shows sequence payload in
+      let shown = read-shown names (a .fit) walk run (end .board) shows sequence payload in
+      record {
+        taken = step-is .count;
+        answers = rw answered (left-is (calls.newFrame run sequence payload) is);
+        board = shown-is (calls.newFrame run sequence payload) is ∙ sym shown;
+      }
+
+  by-last : AtOnce (lastSequence (history cs left)) sequence payload reply packet end more end₁
+  by-last =
+      record {
+        repeated = λ same some-sequence. dropped (repeats (l .sequence) sequence (sym last-is ∙ same) some-sequence);
+        zero = λ none. read-new (zero-new (l .sequence) sequence none);
+        other = λ differs. read-new (other-new (l .sequence) sequence (λ same. differs (last-is ∙ same)));
+      }
+
+-- THEOREM. After every list of calls: where the next call closes a good data frame that has the sequence of the last data frame, not 0,
+-- the frame is answered and dropped, and the board is as it was, whatever came between the two that was no data frame. With sequence 0, or
+-- with another sequence than the last, it is new, and the board has read it.
+pub repeated-at-once : (names : List (List ℕ)) (w : WatchList) → namesIn w ≡ some names → (d : Display) → Begins w d
+    → (cs : List Call) (left : List Left) (end : Display) → Chain d cs left end
+    → (bytes reply packet : List ℕ) (more : Left) (end₁ : Display) → Chain end (piece bytes reply packet ∷ []) (more ∷ []) end₁
+    → (sequence : ℕ) (payload : List ℕ) → Closes (history cs left) (eventsOf (piece bytes reply packet) more) (frames.good sequence payload)
+    → AtOnce (lastSequence (history cs left)) sequence payload reply packet end more end₁
+repeated-at-once names w listed d begins cs left end chain bytes reply packet more end₁ next sequence payload closes =
+    by-last names cs left end (agreeing listed begins chain) bytes reply packet more end₁ next sequence payload closes

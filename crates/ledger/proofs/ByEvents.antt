@@ -1,0 +1,119 @@
+-- The ledger event by event: what one byte or one minute does to it, what it tells, and which frame it closes. Histories one behind the
+-- other do one after the other.
+use mathlib.Core.Path.{_≡_, refl, sym, ap, _∙_}
+use mathlib.Core.Bool.{Bool, true, false, cond}
+use mathlib.Core.List.{List, [], _∷_, _++_, map, append-assoc}
+use mathlib.Core.Option.{Option, some, none}
+use Prim.Native.Nat.{ℕ}
+use native.Mathlib.Omega.{arith}
+use lib.Dec.{eqb}
+use borrow.Author.Tests.{eqb-true}
+use Rattle.refusals.specs.Numbers.{shortOutput}
+use Rattle.board.specs.Reading as reading
+use Rattle.board.specs.Reading.{Verdict}
+use Rattle.ledger.specs.Ledger.{Ledger, olderEntry}
+use Rattle.ledger.specs.Frames as frames
+use Rattle.ledger.specs.Frames.{Turn, goes-on, closes, turn, Frame, frameOf}
+use Rattle.ledger.specs.Answers.{Answer, nothing, refused, heard, again, new}
+use Rattle.ledger.specs.Calls as calls
+use Rattle.ledger.specs.Calls.{repeated, closed, withRun}
+use Rattle.ledger.specs.History.{Event, byte, minute}
+use Rattle.ledger.specs.ClosedFrames.{behindTurn, framesFrom, dataSequences, lastFrom}
+use Rattle.ledger.proofs.StepAgreement.{run-kept}
+
+-- the answers that do not hang on where a piece was cut
+abbrev pub toldBy : Answer → List Answer
+toldBy nothing = []
+toldBy (refused n) = cond (eqb n shortOutput) [] (refused n ∷ [])
+toldBy (heard sequence) = heard sequence ∷ []
+toldBy (again sequence) = again sequence ∷ []
+toldBy (new sequence payload verdict) = new sequence payload verdict ∷ []
+
+pub record Happening : Type 0 where
+  pub ledger : Ledger
+  pub told : List Answer
+
+abbrev pub atTurn : Ledger → Turn → Happening
+atTurn l (goes-on run) = record { ledger = withRun l run; told = [] }
+atTurn l (closes run) =
+    record { ledger = closed (withRun l (some [])) (frameOf run) .ledger; told = toldBy (closed (withRun l (some [])) (frameOf run) .answer) }
+
+abbrev pub happens : Ledger → Event → Happening
+happens l (byte b) = atTurn l (turn (l .run) b)
+happens l minute =
+    record { ledger = record { run = l .run; sequence = l .sequence; counts = l .counts; entries = map olderEntry (l .entries) }; told = [] }
+
+unfoldable pub afterHistory : Ledger → List Event → Ledger
+afterHistory l [] = l
+afterHistory l (e ∷ es) = afterHistory (happens l e .ledger) es
+
+unfoldable pub toldInHistory : Ledger → List Event → List Answer
+toldInHistory l [] = []
+toldInHistory l (e ∷ es) = happens l e .told ++ toldInHistory (happens l e .ledger) es
+
+pub history-append : (l : Ledger) (xs ys : List Event) → afterHistory l (xs ++ ys) ≡ afterHistory (afterHistory l xs) ys
+unfolding afterHistory
+history-append l [] ys = refl
+history-append l (x ∷ xs) ys = history-append (happens l x .ledger) xs ys
+
+pub told-append : (l : Ledger) (xs ys : List Event) → toldInHistory l (xs ++ ys) ≡ toldInHistory l xs ++ toldInHistory (afterHistory l xs) ys
+unfolding toldInHistory afterHistory
+told-append l [] ys = refl
+told-append l (x ∷ xs) ys =
+    ap (λ (r : List Answer). happens l x .told ++ r) (told-append (happens l x .ledger) xs ys)
+    ∙ sym (append-assoc (happens l x .told) (toldInHistory (happens l x .ledger) xs) (toldInHistory (afterHistory (happens l x .ledger) xs) ys))
+
+pub frames-append : (l : Ledger) (xs ys : List Event) → framesFrom (l .run) (xs ++ ys) ≡ framesFrom (l .run) xs ++ framesFrom (afterHistory l xs .run) ys
+unfolding framesFrom afterHistory
+frames-append l [] ys = refl
+frames-append l (minute ∷ xs) ys = frames-append (happens l minute .ledger) xs ys
+frames-append l (byte b ∷ xs) ys = by-turn (turn (l .run) b) (λ m. frames-append m xs ys)
+  where
+    by-turn : (t : Turn) → ((m : Ledger) → framesFrom (m .run) (xs ++ ys) ≡ framesFrom (m .run) xs ++ framesFrom (afterHistory m xs .run) ys)
+        → behindTurn t (λ run. framesFrom run (xs ++ ys)) ≡ behindTurn t (λ run. framesFrom run xs) ++ framesFrom (afterHistory (atTurn l t .ledger) xs .run) ys
+    by-turn (goes-on run) rest = rest (withRun l run)
+    by-turn (closes run) rest =
+        let m = closed (withRun l (some [])) (frameOf run) .ledger in
+        let empty : m .run ≡ some [] = run-kept (withRun l (some [])) (frameOf run) in
+        ap (λ (fs : List Frame). frameOf run ∷ fs) (rw empty at (rest m))
+
+-- the ledger's last sequence is that of the last data frame that was closed
+repeats-last : (last : Option ℕ) (sequence : ℕ) → repeated last sequence ≡ true → last ≡ some sequence
+repeats-last none sequence e = let z : _≡_ {A = ℕ} 0 1 = cc in absurd (omega arith)
+repeats-last (some before) sequence e = cases (eqb sequence 0) (eqb sequence before) refl e
+  where
+    cases : (t u : Bool) → eqb sequence before ≡ u → cond t false u ≡ true → some before ≡ some sequence
+    cases true u f e = let z : _≡_ {A = ℕ} 0 1 = cc in absurd (omega arith)
+    cases false true f e = ap some (sym (eqb-true sequence before f))
+    cases false false f e = let z : _≡_ {A = ℕ} 0 1 = cc in absurd (omega arith)
+
+read-sequence : (l : Ledger) (sequence : ℕ) (v : Verdict) → calls.afterReading (calls.afterNew l sequence) v .sequence ≡ some sequence
+read-sequence l sequence (reading.refused k) = refl
+read-sequence l sequence reading.endMark = refl
+read-sequence l sequence (reading.update name value) = refl
+
+closed-sequence : (l : Ledger) (f : Frame) (fs : List Frame)
+    → lastFrom (closed l f .ledger .sequence) (dataSequences fs) ≡ lastFrom (l .sequence) (dataSequences (f ∷ fs))
+unfolding dataSequences lastFrom
+closed-sequence l (frames.refused k) fs = refl
+closed-sequence l (frames.acknowledgement sequence) fs = refl
+closed-sequence l (frames.good sequence payload) fs = ap (λ (o : Option ℕ). lastFrom o (dataSequences fs)) (by-last (repeated (l .sequence) sequence) refl)
+  where
+    by-last : (t : Bool) → repeated (l .sequence) sequence ≡ t
+        → cond t (calls.repeatedFrame l sequence) (calls.newFrame l sequence payload) .ledger .sequence ≡ some sequence
+    by-last true e = repeats-last (l .sequence) sequence e
+    by-last false e = read-sequence l sequence (calls.readingBy l payload)
+
+pub history-sequence : (l : Ledger) (es : List Event) → afterHistory l es .sequence ≡ lastFrom (l .sequence) (dataSequences (framesFrom (l .run) es))
+unfolding framesFrom afterHistory lastFrom dataSequences
+history-sequence l [] = refl
+history-sequence l (minute ∷ es) = history-sequence (happens l minute .ledger) es
+history-sequence l (byte b ∷ es) = by-turn (turn (l .run) b) (λ m. history-sequence m es)
+  where
+    by-turn : (t : Turn) → ((m : Ledger) → afterHistory m es .sequence ≡ lastFrom (m .sequence) (dataSequences (framesFrom (m .run) es)))
+        → afterHistory (atTurn l t .ledger) es .sequence ≡ lastFrom (l .sequence) (dataSequences (behindTurn t (λ run. framesFrom run es)))
+    by-turn (goes-on run) rest = rest (withRun l run)
+    by-turn (closes run) rest =
+        let m = closed (withRun l (some [])) (frameOf run) .ledger in
+        let empty : m .run ≡ some [] = run-kept (withRun l (some [])) (frameOf run) in
+        rw empty at (rest m) ∙ closed-sequence (withRun l (some [])) (frameOf run) (framesFrom (some []) es)

@@ -1,0 +1,158 @@
+-- DEMAND 3, current exactly when: the row of a name shows what the ledger holds of the name, and that is its last accepted update and the
+-- ticks since.
+use mathlib.Core.Path.{_≡_, refl, sym, ap, _∙_}
+use mathlib.Core.Bool.{Bool, true, false, cond}
+use mathlib.Core.List.{List, [], _∷_, _++_, map}
+use mathlib.Core.Option.{Option, some, none}
+use mathlib.Core.Logic.{_↔_, _⊎_, inl, inr}
+use Prim.Native.Nat.{ℕ, suc, _-_, _≤_, _<_}
+use native.Mathlib.Omega.{arith}
+use lib.Dec.{ltb}
+use lib.IntN.{ℤ}
+use lib.ListN.{length, getD, replicate}
+use borrow.Author.Tests.{lt-ltb, le-ltb, ltb-true, ltb-false}
+use Rattle.slices.specs.Same.{sameBytes}
+use Rattle.slices.proofs.SameLaws.{same-equal}
+use Rattle.rows.specs.Entries as shown
+use Rattle.rows.specs.Entries.{rowShowing, boardShowing}
+use Rattle.rows.specs.Names.{placeFrom, placeOf}
+use Rattle.rows.specs.Rows.{rowCount, rowName, freshRow}
+use Rattle.rows.specs.declared.Board.{Board}
+use Rattle.rows.specs.declared.Row.{Row}
+use Rattle.rows.specs.declared.State.{State}
+use Rattle.rows.specs.declared.State.the-variants.{Never, Current, Silent}
+use Rattle.board.proofs.WatchLaws.{Fits, fresh-name}
+use Rattle.display.specs.declared.Display.{Display}
+use Rattle.ledger.specs.Ledger.{Entry, unheard, start, rowOf, current, silent}
+use Rattle.ledger.specs.Answers.{WatchList, namesIn, Call}
+use Rattle.ledger.specs.Shown.{asState, asEntry, Left}
+use Rattle.ledger.specs.LastAccepted.{allAccepted, LastAccepted, rowAt}
+use Rattle.ledger.proofs.Chain.{Begins, Chain}
+use Rattle.ledger.proofs.EveryList.{Agreeing, agreeing, fresh-named}
+use Rattle.ledger.proofs.UpdateLaws.{lastUpdate, afterCalls, after-followed}
+use Rattle.ledger.proofs.LastAcceptedLaws.{updateOf, last-is, Found, found, none-is}
+
+-- ---- the row of a name
+
+-- what the row of a name shows after some calls
+abbrev rowAfter : List (List ℕ) → List Left → List ℕ → shown.Entry
+rowAfter names left name = record { name = name; state = asState (rowOf (lastUpdate names name left none)) }
+
+rows-after : (all names : List (List ℕ)) (left : List Left) → map asEntry (map (afterCalls all left) (map unheard names)) ≡ map (rowAfter all left) names
+rows-after all [] left = refl
+rows-after all (n ∷ names) left = ap (λ (l : List shown.Entry). rowAfter all left n ∷ l) (rows-after all names left)
+
+board-after : (names : List (List ℕ)) (cs : List Call) (left : List Left) (end : Display) → Agreeing names cs left end
+    → end .board ≡ boardShowing (map (rowAfter names left) names)
+board-after names cs left end a =
+    let followed = after-followed names (start names) cs (fresh-named names) (a .good .once) in
+    a .all .agrees .shows .showing
+    ∙ ap (λ (es : List Entry). boardShowing (map asEntry es)) (rw (← a .all .gives) at followed)
+    ∙ ap boardShowing (rows-after names names left)
+
+-- the row at the place of a name among the names, when they are counted from a on
+record RowAt (f : List ℕ → shown.Entry) (rest : List Row) (name : List ℕ) (names : List (List ℕ)) (a place : ℕ) : Type 0 where
+  behind : a ≤ place
+  row : getD (map rowShowing (map f names) ++ rest) (place - a) (freshRow []) ≡ rowShowing (f name)
+  named : rowName (freshRow name) ≡ name
+
+row-at : (f : List ℕ → shown.Entry) (rest : List Row) (name : List ℕ) (names : List (List ℕ)) (a place : ℕ) → placeFrom a name names ≡ some place
+    → Fits names → RowAt f rest name names a place
+unfolding placeFrom
+row-at f rest name [] a place e fit = let z : _≡_ {A = ℕ} 0 1 = cc in absurd (omega arith)
+row-at f rest name (other ∷ names) a place e fit = cases (sameBytes other name) refl (λ later. row-at f rest name names (suc a) place later (fit .1)) e
+  where
+    cases : (t : Bool) → sameBytes other name ≡ t → (placeFrom (suc a) name names ≡ some place → RowAt f rest name names (suc a) place)
+        → cond t (some a) (placeFrom (suc a) name names) ≡ some place → RowAt f rest name (other ∷ names) a place
+    cases true h below e =
+        let here : a ≡ place = cc in
+        let first : place - a ≡ 0 = omega arith in
+        let same = same-equal other name h in
+        record { behind = omega arith; row = rw (first, same); named = rw same at (fresh-name other (fit .0)) }
+    cases false h below e =
+        let there = below e in
+        let next : place - a ≡ suc (place - suc a) = omega (arith, there .behind) in
+        record { behind = omega (arith, there .behind); row = rw next (there .row); named = there .named }
+
+-- ---- what it shows, by the last accepted update
+
+shown-as : (t : Bool) (value : ℤ) (age : ℕ) → asState (cond t (current value age) silent) ≡ cond t (Current value age) Silent
+shown-as true value age = refl
+shown-as false value age = refl
+
+-- an update of 30 ticks and more
+pub record LongAgo (names : List (List ℕ)) (name : List ℕ) (left : List Left) : Type 0 where
+  pub value : ℤ
+  pub ticks : ℕ
+  pub last : LastAccepted names name value ticks left
+  pub old : 30 ≤ ticks
+
+-- After every list of calls, the row of a watched name
+module _ (names : List (List ℕ)) (w : WatchList) (listed : namesIn w ≡ some names) (d : Display) (begins : Begins w d)
+    (cs : List Call) (left : List Left) (end : Display) (chain : Chain d cs left end)
+    (name : List ℕ) (place : ℕ) (stands : placeOf name names ≡ some place) where
+  abbrev unused : List Row
+  unused = replicate (rowCount - length (map (rowAfter names left) names)) (freshRow [])
+
+  placed : RowAt (rowAfter names left) unused name names 0 place
+  placed = row-at (rowAfter names left) unused name names 0 place stands (agreeing listed begins chain .fit)
+
+  row-is : rowAt (end .board) place ≡ rowShowing (rowAfter names left name)
+  row-is =
+      let same : place - 0 ≡ place = omega arith in
+      ap (λ (b : Board). rowAt b place) (board-after names cs left end (agreeing listed begins chain)) ∙ rw same at (placed .row)
+
+  state-is : rowAt (end .board) place .state ≡ asState (rowOf (lastUpdate names name left none))
+  state-is = ap (λ (r : Row). r .state) row-is
+
+  by-last : (value : ℤ) (ticks : ℕ) → LastAccepted names name value ticks left → rowAt (end .board) place .state ≡ cond (ltb ticks 30) (Current value ticks) Silent
+  by-last value ticks last = state-is ∙ rw (last-is names name value ticks left last) (shown-as (ltb ticks 30) value ticks)
+
+  by-none : allAccepted names name left ≡ [] → rowAt (end .board) place .state ≡ Never
+  by-none quiet = state-is ∙ rw (none-is names name left quiet)
+
+  -- THEOREM. is the row of that name:
+  pub row-named : rowName (rowAt (end .board) place) ≡ name
+  row-named = ap rowName row-is ∙ placed .named
+
+  -- THEOREM. it is CURRENT with a value and an age EXACTLY WHEN the last update accepted for the name had that value and closed that many
+  -- ticks ago, and they are fewer than 30;
+  pub current-exactly-when : (value : ℤ) (age : ℕ) → (rowAt (end .board) place .state ≡ Current value age) ↔ (LastAccepted names name value age left × (age < 30))
+  current-exactly-when value age = (only (found names name left), λ l. by-last value age (l .0) ∙ rw (lt-ltb age 30 (l .1)))
+    where
+      by-age : (f : Found names name left) (t : Bool) → ltb (f .ticks) 30 ≡ t → cond t (Current (f .value) (f .ticks)) Silent ≡ Current value age
+          → LastAccepted names name value age left × (age < 30)
+      by-age f true young e =
+          let of-value : f .value ≡ value = cc in
+          let of-age : f .ticks ≡ age = cc in
+          (rw (← of-value, ← of-age) (f .last), rw (← of-age) (ltb-true (f .ticks) 30 young))
+      by-age f false young e = let z : _≡_ {A = ℕ} 0 1 = cc in absurd (omega arith)
+
+      only : (Found names name left ⊎ (allAccepted names name left ≡ [])) → rowAt (end .board) place .state ≡ Current value age
+          → LastAccepted names name value age left × (age < 30)
+      only (inl f) e = by-age f (ltb (f .ticks) 30) refl (sym (by-last (f .value) (f .ticks) (f .last)) ∙ e)
+      only (inr quiet) e = let never = sym (by-none quiet) ∙ e in let z : _≡_ {A = ℕ} 0 1 = cc in absurd (omega arith)
+
+  -- THEOREM. it is silent exactly when that update closed 30 or more ticks ago;
+  pub silent-exactly-when : (rowAt (end .board) place .state ≡ Silent) ↔ LongAgo names name left
+  silent-exactly-when = (only (found names name left), λ l. by-last (l .value) (l .ticks) (l .last) ∙ rw (le-ltb (l .ticks) 30 (l .old)))
+    where
+      by-age : (f : Found names name left) (t : Bool) → ltb (f .ticks) 30 ≡ t → cond t (Current (f .value) (f .ticks)) Silent ≡ Silent → LongAgo names name left
+      by-age f true young e = let z : _≡_ {A = ℕ} 0 1 = cc in absurd (omega arith)
+      by-age f false young e = record { value = f .value; ticks = f .ticks; last = f .last; old = ltb-false (f .ticks) 30 young }
+
+      only : (Found names name left ⊎ (allAccepted names name left ≡ [])) → rowAt (end .board) place .state ≡ Silent → LongAgo names name left
+      only (inl f) e = by-age f (ltb (f .ticks) 30) refl (sym (by-last (f .value) (f .ticks) (f .last)) ∙ e)
+      only (inr quiet) e = let never = sym (by-none quiet) ∙ e in let z : _≡_ {A = ℕ} 0 1 = cc in absurd (omega arith)
+
+  -- THEOREM. and it shows that nothing came yet exactly when no update was accepted for the name.
+  pub never-exactly-when : (rowAt (end .board) place .state ≡ Never) ↔ (allAccepted names name left ≡ [])
+  never-exactly-when = (only (found names name left), by-none)
+    where
+      by-age : (f : Found names name left) (t : Bool) → cond t (Current (f .value) (f .ticks)) Silent ≡ Never → allAccepted names name left ≡ []
+      by-age f true e = let z : _≡_ {A = ℕ} 0 1 = cc in absurd (omega arith)
+      by-age f false e = let z : _≡_ {A = ℕ} 0 1 = cc in absurd (omega arith)
+
+      only : (Found names name left ⊎ (allAccepted names name left ≡ [])) → rowAt (end .board) place .state ≡ Never → allAccepted names name left ≡ []
+      only (inl f) e = by-age f (ltb (f .ticks) 30) (sym (by-last (f .value) (f .ticks) (f .last)) ∙ e)
+      only (inr quiet) e = quiet

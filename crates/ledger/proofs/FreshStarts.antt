@@ -1,0 +1,98 @@
+-- A fresh start is the display of the board of good names, and there is one for every good list of names, since each name may join those
+-- before it.
+use mathlib.Core.Path.{_≡_, refl, sym, ap, _∙_}
+use mathlib.Core.List.{List, [], _∷_, _++_, append-assoc, append-nil}
+use mathlib.Core.Option.{Option, some, none}
+use Prim.Native.Nat.{ℕ}
+use native.Mathlib.Omega.{arith}
+use Rattle.rows.specs.Rows.{boardOf}
+use Rattle.rows.specs.declared.Board.{Board}
+use Rattle.board.specs.WatchList.{Good, mayJoin, watchNames, fieldsOf, watchBoard, acceptedWith, asWatched}
+use Rattle.board.specs.declared.list.Listed.the-variants.{Accepted}
+use Rattle.board.specs.declared.list.Watched.{Watched}
+use Rattle.board.proofs.EntryLaws.{list-good}
+use Rattle.board.proofs.GoodLists.{may-join, good-listed}
+use Rattle.board.proofs.WatchLaws.{good-none, good-more, watch-more, accepted-joins}
+use Rattle.display.specs.Display as display
+use Rattle.display.specs.declared.Display.{Display}
+use Rattle.ledger.specs.Answers.{WatchList, as-bytes, one-by-one, namesIn}
+use Rattle.ledger.proofs.Chain.{Lists, Watches, Begins, from-bytes, no-names, one-more, slice}
+
+-- what a fresh start is, by the contracts of the functions that made it
+pub record Began (w : WatchList) (d : Display) : Type 0 where
+  pub names : List (List ℕ)
+  pub listed : namesIn w ≡ some names
+  pub good : Good names
+  pub is : d ≡ display.fresh (boardOf names)
+
+from-list : (fields : List ℕ) (watched : Watched) (d : Display) → watched ≡ asWatched (watchNames fields) → watched .answer ≡ Accepted
+    → d ≡ display.fresh (watched .board) → Began (as-bytes fields) d
+from-list fields watched d told accepted started = cases (watchNames fields) refl
+  where
+    cases : (o : Option (List (List ℕ))) → watchNames fields ≡ o → Began (as-bytes fields) d
+    cases none e =
+        let refused = sym accepted ∙ ap (λ (w : Watched). w .answer) (told ∙ ap asWatched e) in
+        let z : _≡_ {A = ℕ} 0 1 = cc in absurd (omega arith)
+    cases (some names) e =
+        let board-is = ap (λ (w : Watched). w .board) (told ∙ ap asWatched e) in
+        record { names = names; listed = e; good = list-good fields names e; is = started ∙ ap display.fresh board-is }
+
+-- one name more, on the board of those before it
+record Joined (names : List (List ℕ)) (name : List ℕ) (board : Board) : Type 0 where
+  good : Good (names ++ (name ∷ []))
+  is : board ≡ boardOf (names ++ (name ∷ []))
+
+joined : (names : List (List ℕ)) (name : List ℕ) (board : Board) (watched : Watched) → Good names → board ≡ boardOf names → watched ≡ watchBoard board name
+    → watched .answer ≡ Accepted → Joined names name (watched .board)
+joined names name board watched good board-is told accepted =
+    let is : watched ≡ watchBoard (boardOf names) name = told ∙ ap (λ (b : Board). watchBoard b name) board-is in
+    let joins = accepted-joins names name good (ap (λ (w : Watched). w .answer) (sym is) ∙ accepted) in
+    record {
+      good = good-more names name good joins;
+      is = ap (λ (w : Watched). w .board) (is ∙ watch-more names name good joins);
+    }
+
+some-names : {names names₁ : List (List ℕ)} → _≡_ {A = Option (List (List ℕ))} (some names) (some names₁) → names₁ ≡ names
+some-names e = cc
+
+pub began : (w : WatchList) (d : Display) → Begins w d → Began w d
+began (as-bytes fields) d (from-bytes {watched = watched} lists accepted started) =
+    from-list fields watched d (rw (lists .list-is) at (lists .learnt)) accepted started
+began (one-by-one ns) d (no-names made started) =
+    record { names = []; listed = refl; good = good-none; is = started ∙ ap display.fresh made }
+began (one-by-one ns) d (one-more {names = names} {name = name} {watched = watched} {d = d₀} before watches accepted started) =
+    let so-far = began (one-by-one names) d₀ before in
+    let same = some-names (so-far .listed) in
+    let told : watched ≡ watchBoard (d₀ .board) name = rw (watches .name-is) at (watches .learnt) in
+    let board-is : d₀ .board ≡ boardOf names = ap (λ (x : Display). x .board) (so-far .is) ∙ ap boardOf same in
+    let j = joined names name (d₀ .board) watched (rw same at (so-far .good)) board-is told accepted in
+    record { names = names ++ (name ∷ []); listed = refl; good = j .good; is = started ∙ ap display.fresh (j .is) }
+
+-- THEOREM. From every list that is accepted there is a fresh start.
+pub accepted-begins : (fields : List ℕ) (names : List (List ℕ)) → watchNames fields ≡ some names → Begins (as-bytes fields) (display.fresh (boardOf names))
+accepted-begins fields names e =
+    from-bytes
+    (record { lifetimes = ([], tt); lent-list = slice fields; list-is = refl; learnt = ap asWatched (sym e) })
+    refl
+    refl
+
+-- THEOREM. Every good list of names is accepted, as the bytes of its fields
+pub good-begins : (names : List (List ℕ)) → Good names → Begins (as-bytes (fieldsOf names)) (display.fresh (boardOf names))
+good-begins names good = accepted-begins (fieldsOf names) names (good-listed names good)
+
+-- and name by name.
+names-begin : (before names : List (List ℕ)) → Good before → Good (before ++ names) → Begins (one-by-one before) (display.fresh (boardOf before))
+    → Begins (one-by-one (before ++ names)) (display.fresh (boardOf (before ++ names)))
+names-begin before [] good all begins = rw (append-nil before) begins
+names-begin before (name ∷ names) good all begins =
+    let joins = may-join name names before all in
+    let behind : before ++ (name ∷ []) ++ names ≡ before ++ (name ∷ names) = append-assoc before (name ∷ []) names in
+    let with-name =
+    one-more begins
+    (record { lifetimes = ([], tt); lent-name = slice name; name-is = refl; learnt = sym (watch-more before name good joins) })
+    refl
+    refl in
+    rw behind at (names-begin (before ++ (name ∷ [])) names (good-more before name good joins) (rw behind all) with-name)
+
+pub good-names-begin : (names : List (List ℕ)) → Good names → Begins (one-by-one names) (display.fresh (boardOf names))
+good-names-begin names good = names-begin [] names good-none good (no-names refl refl)

@@ -1,0 +1,97 @@
+-- DEMAND 3, cuts of the byte stream do not matter: what the calls took and the ticks settle the ledger, so lists of calls with the same
+-- history are alike in all that they told and handed out, in counts and board, and in what comes next.
+use mathlib.Core.Path.{_≡_, refl, sym, ap, _∙_}
+use mathlib.Core.List.{List, [], _∷_, map}
+use mathlib.Core.Option.{some}
+use Prim.Native.Nat.{ℕ}
+use Rattle.rows.specs.Entries.{boardShowing}
+use Rattle.display.specs.declared.Display.{Display}
+use Rattle.ledger.specs.Ledger.{Ledger, start}
+use Rattle.ledger.specs.Answers.{WatchList, namesIn, Call, Answer}
+use Rattle.ledger.specs.Calls.{step, given, after}
+use Rattle.ledger.specs.Shown.{asCounts, asEntry, asAnswer, Left, asLeft}
+use Rattle.ledger.specs.History.{Event, history, allHanded, allTold}
+use Rattle.ledger.proofs.Chain.{Begins, Chain}
+use Rattle.ledger.proofs.EveryList.{Agreed, chain-agrees, Agreeing, agreeing}
+use Rattle.ledger.proofs.ByEvents.{afterHistory, toldInHistory}
+use Rattle.ledger.proofs.HistoryLaws.{after-history, toldOut, told-history}
+use Rattle.ledger.proofs.HandedLaws.{handedWith, all-handed, all-told}
+
+-- two displays after a list of calls each: what the calls left, and what one more call leaves
+pub record Alike (left left₁ : List Left) (end end₁ : Display) : Type 0 where
+  -- all answers in order, but "nothing" and refusal 7
+  pub told : allTold left ≡ allTold left₁
+  -- replies and packets in order, as they stand in the buffers
+  pub handed : allHanded left ≡ allHanded left₁
+  pub counts : end .link .counts ≡ end₁ .link .counts
+  pub board : end .board ≡ end₁ .board
+  -- the same next call is answered alike, and leaves the same in its buffers
+  pub next : (c : Call) (more more₁ : Left) (then then₁ : Display) → Chain end (c ∷ []) (more ∷ []) then → Chain end₁ (c ∷ []) (more₁ ∷ []) then₁
+      → more ≡ more₁
+
+module _ (names : List (List ℕ)) where
+  -- one call, by what the ledger gives
+  pub next-given : (l : Ledger) (c : Call) (more : Left) → more ∷ [] ≡ map (asLeft names) (given l (c ∷ [])) → more ≡ asLeft names (step l c .given)
+  unfolding given
+  next-given l c more e = cc
+
+  -- what a list of calls told, by its history
+  told-by : (cs : List Call) (left : List Left) → left ≡ map (asLeft names) (given (start names) cs)
+      → toldOut names (start names) cs ≡ toldInHistory (start names) (history cs left)
+  told-by cs left gives = rw gives (told-history names (start names) cs)
+
+  pub after-by : (cs : List Call) (left : List Left) → left ≡ map (asLeft names) (given (start names) cs)
+      → after (start names) cs ≡ afterHistory (start names) (history cs left)
+  after-by cs left gives = rw gives (after-history names (start names) cs)
+
+  module _ (cs cs₁ : List Call) (left left₁ : List Left) (end end₁ : Display)
+      (one : Agreeing names cs left end) (two : Agreeing names cs₁ left₁ end₁) (same : history cs left ≡ history cs₁ left₁) where
+    same-ledger : after (start names) cs ≡ after (start names) cs₁
+    same-ledger =
+        after-by cs left (one .all .gives)
+        ∙ ap (λ (h : List Event). afterHistory (start names) h) same
+        ∙ sym (after-by cs₁ left₁ (two .all .gives))
+
+    same-told : toldOut names (start names) cs ≡ toldOut names (start names) cs₁
+    same-told =
+        told-by cs left (one .all .gives)
+        ∙ ap (λ (h : List Event). toldInHistory (start names) h) same
+        ∙ sym (told-by cs₁ left₁ (two .all .gives))
+
+    alike : Alike left left₁ end end₁
+    alike =
+        record {
+          told =
+              ap allTold (one .all .gives)
+              ∙ all-told names (start names) cs
+              ∙ ap (λ (all : List Answer). map (asAnswer names) all) same-told
+              ∙ sym (ap allTold (two .all .gives) ∙ all-told names (start names) cs₁);
+          handed =
+              ap allHanded (one .all .gives)
+              ∙ all-handed names (start names) cs
+              ∙ ap handedWith same-told
+              ∙ sym (ap allHanded (two .all .gives) ∙ all-handed names (start names) cs₁);
+          counts =
+              one .all .agrees .counts-are
+              ∙ ap (λ (m : Ledger). asCounts (m .counts)) same-ledger
+              ∙ sym (two .all .agrees .counts-are);
+          board =
+              one .all .agrees .shows .showing
+              ∙ ap (λ (m : Ledger). boardShowing (map asEntry (m .entries))) same-ledger
+              ∙ sym (two .all .agrees .shows .showing);
+          next =
+              λ c more more₁ then then₁ calls calls₁.
+                  let here = chain-agrees names (one .fit) (after (start names) cs) calls (one .all .agrees) in
+                  let there = chain-agrees names (two .fit) (after (start names) cs₁) calls₁ (two .all .agrees) in
+                  next-given (after (start names) cs) c more (here .gives)
+                  ∙ ap (λ (m : Ledger). asLeft names (step m c .given)) same-ledger
+                  ∙ sym (next-given (after (start names) cs₁) c more₁ (there .gives));
+        }
+
+-- THEOREM. Lists of calls from fresh starts with the same names, whose bytes taken and ticks are the same in order, are alike, wherever
+-- the pieces were cut and whichever calls among them were refused.
+pub same-history : (names : List (List ℕ)) (w w₁ : WatchList) → namesIn w ≡ some names → namesIn w₁ ≡ some names
+    → (d d₁ : Display) → Begins w d → Begins w₁ d₁ → (cs cs₁ : List Call) (left left₁ : List Left) (end end₁ : Display)
+    → Chain d cs left end → Chain d₁ cs₁ left₁ end₁ → history cs left ≡ history cs₁ left₁ → Alike left left₁ end end₁
+same-history names w w₁ listed listed₁ d d₁ b b₁ cs cs₁ left left₁ end end₁ c c₁ same =
+    alike names cs cs₁ left left₁ end end₁ (agreeing listed b c) (agreeing listed₁ b₁ c₁) same

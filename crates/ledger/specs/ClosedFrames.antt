@@ -1,0 +1,41 @@
+-- 01, The receiver: "each flag after the first ends one frame and begins the next". The frames that a history closed, in order, and the
+-- sequences of the data frames among them.
+use Prim.Native.Nat.{ℕ}
+use mathlib.Core.Path.{_≡_}
+use mathlib.Core.List.{List, [], _∷_, _++_}
+use mathlib.Core.Option.{Option, some, none}
+use Rattle.ledger.specs.Frames.{Turn, goes-on, closes, turn, Frame, refused, acknowledgement, good, frameOf}
+use Rattle.ledger.specs.History.{Event, byte, minute}
+
+-- a byte goes on with the run, or closes a frame and begins an empty run
+abbrev pub behindTurn : Turn → (Option (List ℕ) → List Frame) → List Frame
+behindTurn (goes-on run) rest = rest run
+behindTurn (closes run) rest = frameOf run ∷ rest (some [])
+
+unfoldable pub framesFrom : Option (List ℕ) → List Event → List Frame
+framesFrom run [] = []
+framesFrom run (byte b ∷ events) = behindTurn (turn run b) (λ run₁. framesFrom run₁ events)
+framesFrom run (minute ∷ events) = framesFrom run events
+
+-- at first there is no run
+abbrev pub framesIn : List Event → List Frame
+framesIn events = framesFrom none events
+
+-- further events close one frame
+abbrev pub Closes : List Event → List Event → Frame → Type 0
+Closes events further frame = framesIn (events ++ further) ≡ framesIn events ++ (frame ∷ [])
+
+unfoldable pub dataSequences : List Frame → List ℕ
+dataSequences [] = []
+dataSequences (refused n ∷ frames) = dataSequences frames
+dataSequences (acknowledgement sequence ∷ frames) = dataSequences frames
+dataSequences (good sequence payload ∷ frames) = sequence ∷ dataSequences frames
+
+-- the last of some numbers, or what was there before them
+unfoldable pub lastFrom : Option ℕ → List ℕ → Option ℕ
+lastFrom before [] = before
+lastFrom before (n ∷ more) = lastFrom (some n) more
+
+-- the sequence of the last data frame in a history, whatever came behind it that was none; none before the first
+abbrev pub lastSequence : List Event → Option ℕ
+lastSequence events = lastFrom none (dataSequences (framesIn events))

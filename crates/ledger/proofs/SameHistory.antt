@@ -81,11 +81,11 @@ module _ (names : List (List ℕ)) where
               ∙ sym (two .all .agrees .shows .showing);
           next =
               λ c more more₁ then then₁ calls calls₁.
-                  let here = chain-agrees names (one .fit) (after (start names) cs) calls (one .all .agrees) in
-                  let there = chain-agrees names (two .fit) (after (start names) cs₁) calls₁ (two .all .agrees) in
-                  next-given (after (start names) cs) c more (here .gives)
-                  ∙ ap (λ (m : Ledger). asLeft names (step m c .given)) same-ledger
-                  ∙ sym (next-given (after (start names) cs₁) c more₁ (there .gives));
+              let here = chain-agrees names (one .fit) (after (start names) cs) calls (one .all .agrees) in
+              let there = chain-agrees names (two .fit) (after (start names) cs₁) calls₁ (two .all .agrees) in
+              next-given (after (start names) cs) c more (here .gives)
+              ∙ ap (λ (m : Ledger). asLeft names (step m c .given)) same-ledger
+              ∙ sym (next-given (after (start names) cs₁) c more₁ (there .gives));
         }
 
 -- THEOREM. Lists of calls from fresh starts with the same names, whose bytes taken and ticks are the same in order, are alike, wherever

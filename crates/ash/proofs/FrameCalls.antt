@@ -2,11 +2,11 @@
 -- (`Learnt`): a contract that says less breaks this.
 use mathlib.Core.Path.{_≡_, refl, ap, _∙_}
 use mathlib.Core.List.{List, []}
-use Prim.Native.Nat.{ℕ, _≤_, _<_}
+use Prim.Native.Nat.{ℕ, _≤_}
 use denote.Ref.{RefT}
 use contract.Lifetimes.{Lfts}
 use native.Mathlib.Omega.{arith}
-use lib.ListN.{length, take, getD}
+use lib.ListN.{length, take}
 use Rattle.slices.specs.Put.{putAt}
 use Rattle.slices.proofs.PutLaws.{put-first}
 use Rattle.ash.specs.Stuffing.{payloadMax}
@@ -97,16 +97,16 @@ found (reading.refused m) control n e = let z : _≡_ {A = ℕ} 0 1 = cc in absu
 
 -- THEOREM. Where a call of `read_frame` answered a control byte and n, the bytes that it was lent are exactly those that the writer writes
 -- for that control byte and the first n bytes of the output.
-pub call-only-written : (bytes before : List ℕ) (control n : ℕ) (after : List ℕ) → getD bytes 1 0 < 0x100
+pub call-only-written : (bytes before : List ℕ) (control n : ℕ) (after : List ℕ)
     → Reads bytes before (read.Frame control n) after → writeFrame (length bytes) control (take n after) ≡ written bytes
-call-only-written bytes before control n after byte r =
+call-only-written bytes before control n after r =
     let result = readFrame (length before) bytes in
     let did-read = was-read r in
     let f = found result control n (did-read .answers) in
-    let fits = taken-fits (length before) bytes control (f .payload) byte (f .is) in
+    let fits = taken-fits (length before) bytes control (f .payload) (f .is) in
     let put : after ≡ putAt before 0 (f .payload) = did-read .output ∙ ap (λ (x : Read). putAt before 0 (readPayload x)) (f .is) in
     let first : take n after ≡ f .payload = put-told before after (f .payload) n put (f .size) fits in
-    ap (writeFrame (length bytes) control) first ∙ only-written (length before) bytes control (f .payload) byte (f .is)
+    ap (writeFrame (length bytes) control) first ∙ only-written (length before) bytes control (f .payload) (f .is)
 
 -- such calls are there, since the contracts ask nothing: one for every frame that is written, and one for all bytes and every output
 abbrev slice : List ℕ → RefT (List ℕ)

@@ -13,7 +13,7 @@ use borrow.Author.Tests.{ltb-true, ltb-false}
 use Rattle.slices.specs.Each.{each}
 use Rattle.ash.specs.Reserved.{escapeByte, reserved, flipped}
 use Rattle.ash.specs.Stuffing.{stuffByte, stuff}
-use Rattle.ash.specs.Header.{sentByte, sentHeader}
+use Rattle.ash.specs.Header.{escapeBits, sentByte, sentHeader}
 use Rattle.ash.specs.Check.{bit4, withoutBit4, spread, checkOver, checkBytes}
 use Rattle.ash.specs.Writing.{frameOf}
 use Rattle.ash.proofs.ReservedLaws.{not-reserved, flipped-twice, flipped-free}
@@ -31,7 +31,7 @@ check-free crc (suc zero) = without-bit-4 (withoutBit4 (crc % 0x100)) (omega ari
 check-free crc (suc (suc zero)) = without-bit-4 (bit4 (crc / 0x100) * 0x80 + bit4 (crc % 0x100) * 0x40) (omega arith)
 check-free crc (suc (suc (suc i))) = without-bit-4 0 refl
 
-escape-free : (t u : Bool) → reserved (cond t 0x80 0 + cond u 0x40 0) ≡ false
+escape-free : (t u : Bool) → reserved (escapeBits t u) ≡ false
 unfolding reserved
 escape-free true true = refl
 escape-free true false = refl

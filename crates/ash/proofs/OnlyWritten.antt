@@ -3,19 +3,19 @@
 use mathlib.Core.Path.{_≡_, refl, sym, ap, ap₂, _∙_}
 use mathlib.Core.Bool.{Bool, true, false, cond, _&&_}
 use mathlib.Core.List.{List, [], _∷_, _++_, append-assoc}
-use Prim.Native.Nat.{ℕ, suc, _+_, _*_, _/_, _%_, _≤_, _<_}
+use Prim.Native.Nat.{ℕ, suc, _+_, _≤_}
 use native.Mathlib.Omega.{arith}
 use lib.Dec.{eqb, ltb, leb}
-use lib.ListN.{length, take, drop, getD, take-append-drop}
+use lib.ListN.{length, take, drop, take-append-drop}
 use lib.Seq.{length-take-le}
-use borrow.Author.Tests.{eqb-true, eqb-false, leb-true, ltb-false, not-true}
+use borrow.Author.Tests.{eqb-true, leb-true, ltb-false, not-true}
 use Rattle.refusals.specs.Numbers.{shortOutput, badHeader, badLength, otherCheck}
 use Rattle.slices.specs.Same.{sameBytes}
 use Rattle.slices.proofs.SameLaws.{same-equal}
 use Rattle.slices.proofs.TestLaws.{both}
 use Rattle.ash.specs.Reserved.{flagByte, reserved, unescaped, rightlyEscaped}
 use Rattle.ash.specs.Stuffing.{payloadMax, stuff, Unstuffed, payload, broken, unstuff}
-use Rattle.ash.specs.Header.{sentByte, sentHeader, controlEscaped, lengthEscaped, goodHeader}
+use Rattle.ash.specs.Header.{escapeBits, sentByte, sentHeader, controlEscaped, lengthEscaped, noReservedBit, goodHeader}
 use Rattle.ash.specs.Check.{checkBytes}
 use Rattle.ash.specs.Writing.{frameOf, written, writeFrame}
 use Rattle.ash.specs.Reading.{Read, frame, refused, checked, readByLength, readByHeader, flagFirst, readFrame}
@@ -31,32 +31,17 @@ rightly-sent false s e =
     let free = not-true (reserved s) e in
     (free, rw free)
 
--- a bit as what it stands for
-bit-marks : (n mark : ℕ) → cond (eqb (n % 2) 1) mark 0 ≡ n % 2 * mark
-bit-marks n mark = cases (eqb (n % 2) 1) refl
-  where
-    cases : (t : Bool) → eqb (n % 2) 1 ≡ t → cond t mark 0 ≡ n % 2 * mark
-    cases true e = rw (eqb-true (n % 2) 1 e) (omega arith)
-    cases false e =
-        let other = eqb-false (n % 2) 1 e in
-        let none : n % 2 ≡ 0 = omega arith in
-        rw none (omega arith)
-
--- a header escape byte without reserved bits is the sum of its two bits
-sum-of-bits : (escape : ℕ) → escape < 0x100 → escape % 0x40 ≡ 0
-    → cond (controlEscaped escape) 0x80 0 + cond (lengthEscaped escape) 0x40 0 ≡ escape
-sum-of-bits escape h e = rw (bit-marks (escape / 0x80) 0x80, bit-marks (escape / 0x40) 0x40) (omega arith)
-
 -- what a good header stands for is sent by the writer as that header
-good-sent : (escape control size : ℕ) → escape < 0x100 → goodHeader escape control size ≡ true
+good-sent : (escape control size : ℕ) → goodHeader escape control size ≡ true
     → sentHeader (unescaped (controlEscaped escape) control) (unescaped (lengthEscaped escape) size) ≡ flagByte ∷ escape ∷ control ∷ size ∷ []
 unfolding goodHeader sentHeader
-good-sent escape control size h e =
-    let first = both (eqb (escape % 0x40) 0) (rightlyEscaped (controlEscaped escape) control && rightlyEscaped (lengthEscaped escape) size) e in
+good-sent escape control size e =
+    let first = both (noReservedBit escape) (rightlyEscaped (controlEscaped escape) control && rightlyEscaped (lengthEscaped escape) size) e in
     let others = both (rightlyEscaped (controlEscaped escape) control) (rightlyEscaped (lengthEscaped escape) size) (first .second) in
     let c = rightly-sent (controlEscaped escape) control (others .first) in
     let n = rightly-sent (lengthEscaped escape) size (others .second) in
-    rw (c .1, n .1, c .0, n .0) (ap (λ (x : ℕ). flagByte ∷ x ∷ control ∷ size ∷ []) (sum-of-bits escape h (eqb-true (escape % 0x40) 0 (first .first))))
+    let held = eqb-true escape (escapeBits (controlEscaped escape) (lengthEscaped escape)) (first .first) in
+    rw (c .1, n .1, c .0, n .0) (ap (λ (x : ℕ). flagByte ∷ x ∷ control ∷ size ∷ []) (sym held))
 
 -- a frame that was taken had every test passed
 record Taken (control : ℕ) (p bytes : List ℕ) : Type 0 where
@@ -136,16 +121,16 @@ module _ (escape first second : ℕ) (rest : List ℕ) where
   behind-header : (n : ℕ) → drop n rest ≡ drop (n + 4) bytes
   behind-header n = let same : n + 4 ≡ suc (suc (suc (suc n))) = omega arith in rw same
 
-  whole-frame : (control : ℕ) (p : List ℕ) → escape < 0x100 → readByHeader bytes ≡ frame control p → Taken control p bytes
+  whole-frame : (control : ℕ) (p : List ℕ) → readByHeader bytes ≡ frame control p → Taken control p bytes
   unfolding readByHeader
-  whole-frame control p h e = cases (goodHeader escape first second) refl e
+  whole-frame control p e = cases (goodHeader escape first second) refl e
     where
       cases : (t : Bool) → goodHeader escape first second ≡ t → cond t (readByLength meant size-meant bytes) (refused badHeader) ≡ frame control p
           → Taken control p bytes
       cases false f e = let z : _≡_ {A = ℕ} 0 1 = cc in absurd (omega arith)
       cases true f e =
           let s = sized-frame meant size-meant bytes control p e in
-          let header : sentHeader control size-meant ≡ flagByte ∷ escape ∷ first ∷ second ∷ [] = rw (← s .parts .same-control) (good-sent escape first second h f) in
+          let header : sentHeader control size-meant ≡ flagByte ∷ escape ∷ first ∷ second ∷ [] = rw (← s .parts .same-control) (good-sent escape first second f) in
           let enough : size-meant ≤ length rest = omega (arith, s .whole) in
           let check : drop size-meant rest ≡ checkBytes control p = behind-header size-meant ∙ s .parts .same-bytes in
           let fits = sized control size-meant p rest (flagByte ∷ escape ∷ first ∷ second ∷ []) (s .parts .unstuffed) enough header check in
@@ -173,22 +158,21 @@ opened room bytes control p e = cases (ltb room payloadMax) (flagFirst bytes) (l
     cases false true true d f g e = let z : _≡_ {A = ℕ} 0 1 = cc in absurd (omega arith)
     cases false true false d f g e = record { asked = ltb-false room payloadMax d; flag = f; long = ltb-false (length bytes) 7 g; whole = e }
 
-frame-taken : (room : ℕ) (bytes : List ℕ) (control : ℕ) (p : List ℕ) → getD bytes 1 0 < 0x100 → Opened room bytes (frame control p) → Taken control p bytes
-frame-taken room [] control p h o = absurd (omega (arith, o .long))
-frame-taken room (a ∷ []) control p h o = absurd (omega (arith, o .long))
-frame-taken room (a ∷ b ∷ []) control p h o = absurd (omega (arith, o .long))
-frame-taken room (a ∷ b ∷ c ∷ []) control p h o = absurd (omega (arith, o .long))
-frame-taken room (a ∷ b ∷ c ∷ d ∷ rest) control p h o =
+frame-taken : (room : ℕ) (bytes : List ℕ) (control : ℕ) (p : List ℕ) → Opened room bytes (frame control p) → Taken control p bytes
+frame-taken room [] control p o = absurd (omega (arith, o .long))
+frame-taken room (a ∷ []) control p o = absurd (omega (arith, o .long))
+frame-taken room (a ∷ b ∷ []) control p o = absurd (omega (arith, o .long))
+frame-taken room (a ∷ b ∷ c ∷ []) control p o = absurd (omega (arith, o .long))
+frame-taken room (a ∷ b ∷ c ∷ d ∷ rest) control p o =
     let flag : a ≡ flagByte = eqb-true a flagByte (o .flag) in
     let whole : readByHeader (flagByte ∷ b ∷ c ∷ d ∷ rest) ≡ frame control p = rw flag at (o .whole) in
-    rw flag (whole-frame b c d rest control p h whole)
+    rw flag (whole-frame b c d rest control p whole)
 
--- THEOREM. A frame is taken only if it is exactly what the writer writes for its control byte and payload. (The elements of a list are
--- any numbers; that the header escape is a byte is therefore asked.)
-module _ (room : ℕ) (bytes : List ℕ) (control : ℕ) (p : List ℕ) (byte : getD bytes 1 0 < 0x100) (e : readFrame room bytes ≡ frame control p) where
+-- THEOREM. A frame is taken only if it is exactly what the writer writes for its control byte and payload.
+module _ (room : ℕ) (bytes : List ℕ) (control : ℕ) (p : List ℕ) (e : readFrame room bytes ≡ frame control p) where
   pub only-written : writeFrame (length bytes) control p ≡ written bytes
   only-written =
-      let t = frame-taken room bytes control p byte (opened room bytes control p e) in
+      let t = frame-taken room bytes control p (opened room bytes control p e) in
       let fits : 7 + length (stuff p) ≤ length bytes = omega (arith, frame-length control p, ap length (t .is)) in
       room-enough (length bytes) control p (t .short) fits ∙ ap written (sym (t .is))
 
@@ -196,5 +180,5 @@ module _ (room : ℕ) (bytes : List ℕ) (control : ℕ) (p : List ℕ) (byte : 
   pub taken-fits : length p ≤ room
   taken-fits =
       let o = opened room bytes control p e in
-      let t = frame-taken room bytes control p byte o in
+      let t = frame-taken room bytes control p o in
       omega (arith, o .asked, t .short, stuff-least p)

@@ -11,12 +11,13 @@ use lib.ListN.{length, getD, length-append, List·getD-append}
 use lib.Seq.{getD-append-add}
 use borrow.Author.Tests.{ltb-true, ltb-false}
 use Rattle.slices.specs.Each.{each}
-use Rattle.ash.specs.Reserved.{escapeByte, reserved, flipped}
+use Rattle.ash.specs.Reserved.{flagByte, escapeByte, reserved, flipped}
 use Rattle.ash.specs.Stuffing.{stuffByte, stuff}
 use Rattle.ash.specs.Header.{escapeBits, sentByte, sentHeader}
 use Rattle.ash.specs.Check.{bit4, withoutBit4, spread, checkOver, checkBytes}
 use Rattle.ash.specs.Writing.{frameOf}
 use Rattle.ash.proofs.ReservedLaws.{not-reserved, flipped-twice, flipped-free}
+use Rattle.ash.proofs.WriteLaws.{frame-length}
 use Rattle.ash.proofs.StuffLaws.{byte-escaped, byte-plain}
 
 -- 002, 3.10: all reserved bytes have bit 4 set
@@ -51,7 +52,16 @@ pub record EscapeAt (s : List ℕ) (i : ℕ) : Type 0 where
   pub inside : suc i < length s
   pub behind : reserved (flipped (getD s (suc i) 0)) ≡ true
 
--- the same behind other bytes
+-- the same in front of other bytes, and behind them
+earlier : (s ys : List ℕ) (i : ℕ) → EscapeAt s i → EscapeAt (s ++ ys) i
+earlier s ys i e =
+    let before : i < length s = omega (arith, e .inside) in
+    record {
+      escape = rw (List·getD-append s ys 0 i before) (e .escape);
+      inside = rw length-append (omega (arith, e .inside));
+      behind = rw (List·getD-append s ys 0 (suc i) (e .inside)) (e .behind);
+    }
+
 later : (xs s : List ℕ) (i n : ℕ) → n ≡ length xs + i → EscapeAt s i → EscapeAt (xs ++ s) n
 later xs s i n place e =
     let next : suc n ≡ length xs + suc i = omega arith in
@@ -94,10 +104,12 @@ behind-free xs ys i past free =
     let place : i ≡ length xs + (i - length xs) = omega arith in
     rw (place, getD-append-add xs ys (i - length xs) 0) (free (i - length xs))
 
--- an escape byte of the payload, as a place of the frame: the payload stands behind the four bytes of the header
-pub record PayloadEscape (p : List ℕ) (i : ℕ) : Type 0 where
+-- an escape byte of the payload among the bytes of a frame: it stands behind the four bytes of the header, and the byte that it escapes before
+-- the three check bytes
+pub record PayloadEscape (bytes : List ℕ) (i : ℕ) : Type 0 where
   pub behind-header : 4 ≤ i
-  pub escapes : EscapeAt (stuff p) (i - 4)
+  pub before-check : suc i + 3 < length bytes
+  pub escapes : EscapeAt bytes i
 
 -- so is one of payload and check bytes
 module _ (control : ℕ) (p : List ℕ) where
@@ -116,10 +128,21 @@ module _ (control : ℕ) (p : List ℕ) where
           let no = behind-free (stuff p) (checkBytes control p) i (ltb-false i (length (stuff p)) e) checks-free in
           let z : _≡_ {A = ℕ} 0 1 = cc in absurd (omega arith)
 
-  -- THEOREM. A reserved byte of a sent frame is its first byte, the flag, or an escape byte of its payload.
-  pub only-flag-and-escapes : (i : ℕ) → reserved (getD (frameOf control p) i 0) ≡ true → (i ≡ 0) ⊎ PayloadEscape p i
+  payload-escape : (i : ℕ) → EscapeAt (stuff p) i → PayloadEscape (frameOf control p) (suc (suc (suc (suc i))))
   unfolding frameOf sentHeader
-  only-flag-and-escapes zero h = inl refl
+  payload-escape i e =
+      let rest = earlier (stuff p) (checkBytes control p) i e in
+      record {
+        behind-header = omega arith;
+        before-check = omega (arith, frame-length control p, e .inside);
+        escapes = later (sentHeader control (length (stuff p))) (stuff p ++ checkBytes control p) i (suc (suc (suc (suc i)))) (omega arith) rest;
+      }
+
+  -- THEOREM. A reserved byte of a sent frame is its first byte, the flag, or an escape byte of its payload.
+  pub only-flag-and-escapes : (i : ℕ) → reserved (getD (frameOf control p) i 0) ≡ true
+      → ((i ≡ 0) × (getD (frameOf control p) i 0 ≡ flagByte)) ⊎ PayloadEscape (frameOf control p) i
+  unfolding frameOf sentHeader
+  only-flag-and-escapes zero h = inl (refl, refl)
   only-flag-and-escapes (suc zero) h =
       let no = escape-free (reserved control) (reserved (length (stuff p))) in
       let z : _≡_ {A = ℕ} 0 1 = cc in absurd (omega arith)
@@ -129,6 +152,4 @@ module _ (control : ℕ) (p : List ℕ) where
   only-flag-and-escapes (suc (suc (suc zero))) h =
       let no = sent-free (length (stuff p)) in
       let z : _≡_ {A = ℕ} 0 1 = cc in absurd (omega arith)
-  only-flag-and-escapes (suc (suc (suc (suc i)))) h =
-      let place : suc (suc (suc (suc i))) - 4 ≡ i = omega arith in
-      inr (record { behind-header = omega arith; escapes = rw place (rest-free i h) })
+  only-flag-and-escapes (suc (suc (suc (suc i)))) h = inr (payload-escape i (rest-free i h))

@@ -9,6 +9,7 @@ pub mod StuffTheorems
 pub mod PayloadLaws
 pub mod FrameTheorems
 pub mod OnlyWritten
-pub mod FrameCalls
+pub mod Calls
 pub mod FreeFrames
+pub mod FrameCalls
 pub mod KnownFrames

@@ -5,24 +5,22 @@ use mathlib.Core.Bool.{Bool, true, false, cond, _&&_}
 use mathlib.Core.List.{List, [], _∷_, _++_, append-assoc}
 use Prim.Native.Nat.{ℕ, suc, _+_, _≤_}
 use native.Mathlib.Omega.{arith}
-use lib.Dec.{eqb, ltb, leb}
 use lib.ListN.{length, take, drop, take-append-drop}
 use lib.Seq.{length-take-le}
-use borrow.Author.Tests.{eqb-true, leb-true, ltb-false, not-true}
-use Rattle.refusals.specs.Numbers.{shortOutput, badHeader, badLength, otherCheck}
-use Rattle.slices.specs.Same.{sameBytes}
-use Rattle.slices.proofs.SameLaws.{same-equal}
+use borrow.Author.Tests.{eqb-true, not-true}
+use Rattle.refusals.specs.Numbers.{badHeader}
 use Rattle.slices.proofs.TestLaws.{both}
 use Rattle.ash.specs.Reserved.{flagByte, reserved, unescaped, rightlyEscaped}
-use Rattle.ash.specs.Stuffing.{payloadMax, stuff, Unstuffed, payload, broken, unstuff}
+use Rattle.ash.specs.Stuffing.{payloadMax, stuff, payload, unstuff}
 use Rattle.ash.specs.Header.{escapeBits, sentByte, sentHeader, controlEscaped, lengthEscaped, noReservedBit, goodHeader}
 use Rattle.ash.specs.Check.{checkBytes}
 use Rattle.ash.specs.Writing.{frameOf, written, writeFrame}
-use Rattle.ash.specs.Reading.{Read, frame, refused, checked, readByLength, readByHeader, flagFirst, readFrame}
+use Rattle.ash.specs.Reading.{frame, refused, readByLength, readByHeader, readFrame}
 use Rattle.ash.proofs.ReservedLaws.{flipped-twice}
 use Rattle.ash.proofs.WriteLaws.{frame-length, room-enough}
 use Rattle.ash.proofs.StuffLaws.{stuff-least}
 use Rattle.ash.proofs.StuffTheorems.{stuff-unstuff}
+use Rattle.ash.proofs.TakenLaws.{sized-frame, Opened, opened}
 
 -- a header byte that is rightly escaped is sent so by the writer
 rightly-sent : (t : Bool) (s : ℕ) → rightlyEscaped t s ≡ true → (reserved (unescaped t s) ≡ t) × (sentByte (unescaped t s) ≡ s)
@@ -43,7 +41,7 @@ good-sent escape control size e =
     let held = eqb-true escape (escapeBits (controlEscaped escape) (lengthEscaped escape)) (first .first) in
     rw (c .1, n .1, c .0, n .0) (ap (λ (x : ℕ). flagByte ∷ x ∷ control ∷ size ∷ []) (sym held))
 
--- a frame that was taken had every test passed
+-- a frame that was taken is that of its control byte and payload
 record Taken (control : ℕ) (p bytes : List ℕ) : Type 0 where
   short : length (stuff p) ≤ payloadMax
   is : bytes ≡ frameOf control p
@@ -62,50 +60,6 @@ module _ (control size : ℕ) (p rest : List ℕ) (header : List ℕ) (unstuffed
       let front : sentHeader control (length (stuff p)) ≡ header = ap (sentHeader control) sized ∙ sent in
       let headed = ap (λ (h : List ℕ). h ++ stuff p ++ checkBytes control p) front in
       sym (headed ∙ append-assoc header (stuff p) (checkBytes control p) ∙ ap (λ (l : List ℕ). header ++ l) parts)
-
--- what a payload and its check bytes were taken as
-record Checked (control : ℕ) (check : List ℕ) (found : Unstuffed) (control₁ : ℕ) (p : List ℕ) : Type 0 where
-  same-control : control ≡ control₁
-  unstuffed : found ≡ payload p
-  same-bytes : check ≡ checkBytes control₁ p
-
-checked-frame : (control : ℕ) (check : List ℕ) (found : Unstuffed) (control₁ : ℕ) (p : List ℕ) → checked control check found ≡ frame control₁ p
-    → Checked control check found control₁ p
-checked-frame control check broken control₁ p e = let z : _≡_ {A = ℕ} 0 1 = cc in absurd (omega arith)
-checked-frame control check (payload q) control₁ p e = cases (sameBytes check (checkBytes control q)) refl e
-  where
-    cases : (t : Bool) → sameBytes check (checkBytes control q) ≡ t → cond t (frame control q) (refused otherCheck) ≡ frame control₁ p
-        → Checked control check (payload q) control₁ p
-    cases false f e = let z : _≡_ {A = ℕ} 0 1 = cc in absurd (omega arith)
-    cases true f e =
-        let c : control ≡ control₁ = cc in
-        let is : q ≡ p = cc in
-        record { same-control = c; unstuffed = ap payload is; same-bytes = same-equal check (checkBytes control q) f ∙ ap₂ checkBytes c is }
-
--- what a length was taken for
-record Sized (control size : ℕ) (bytes : List ℕ) (control₁ : ℕ) (p : List ℕ) : Type 0 where
-  small : size ≤ payloadMax
-  whole : length bytes ≡ size + 7
-  parts : Checked control (drop (size + 4) bytes) (unstuff (take size (drop 4 bytes))) control₁ p
-
-sized-frame : (control size : ℕ) (bytes : List ℕ) (control₁ : ℕ) (p : List ℕ) → readByLength control size bytes ≡ frame control₁ p
-    → Sized control size bytes control₁ p
-unfolding readByLength
-sized-frame control size bytes control₁ p e = cases (leb size payloadMax && eqb (length bytes) (size + 7)) refl e
-  where
-    found : Read
-    found = checked control (drop (size + 4) bytes) (unstuff (take size (drop 4 bytes)))
-
-    cases : (t : Bool) → (leb size payloadMax && eqb (length bytes) (size + 7)) ≡ t → cond t found (refused badLength) ≡ frame control₁ p
-        → Sized control size bytes control₁ p
-    cases false f e = let z : _≡_ {A = ℕ} 0 1 = cc in absurd (omega arith)
-    cases true f e =
-        let two = both (leb size payloadMax) (eqb (length bytes) (size + 7)) f in
-        record {
-          small = leb-true size payloadMax (two .first);
-          whole = eqb-true (length bytes) (size + 7) (two .second);
-          parts = checked-frame control (drop (size + 4) bytes) (unstuff (take size (drop 4 bytes))) control₁ p e;
-        }
 
 -- a whole frame behind its flag
 module _ (escape first second : ℕ) (rest : List ℕ) where
@@ -138,25 +92,6 @@ module _ (escape first second : ℕ) (rest : List ℕ) where
             short = omega (arith, fits, s .small);
             is = assembled control size-meant p rest (flagByte ∷ escape ∷ first ∷ second ∷ []) (s .parts .unstuffed) enough header check;
           }
-
--- a frame that was taken had an output of 57 bytes, a flag first and seven bytes
-record Opened (room : ℕ) (bytes : List ℕ) (found : Read) : Type 0 where
-  asked : payloadMax ≤ room
-  flag : flagFirst bytes ≡ true
-  long : 7 ≤ length bytes
-  whole : readByHeader bytes ≡ found
-
-opened : (room : ℕ) (bytes : List ℕ) (control : ℕ) (p : List ℕ) → readFrame room bytes ≡ frame control p → Opened room bytes (frame control p)
-unfolding readFrame
-opened room bytes control p e = cases (ltb room payloadMax) (flagFirst bytes) (ltb (length bytes) 7) refl refl refl e
-  where
-    cases : (t u v : Bool) → ltb room payloadMax ≡ t → flagFirst bytes ≡ u → ltb (length bytes) 7 ≡ v
-        → cond t (refused shortOutput) (cond u (cond v (refused badLength) (readByHeader bytes)) (refused badHeader)) ≡ frame control p
-        → Opened room bytes (frame control p)
-    cases true u v d f g e = let z : _≡_ {A = ℕ} 0 1 = cc in absurd (omega arith)
-    cases false false v d f g e = let z : _≡_ {A = ℕ} 0 1 = cc in absurd (omega arith)
-    cases false true true d f g e = let z : _≡_ {A = ℕ} 0 1 = cc in absurd (omega arith)
-    cases false true false d f g e = record { asked = ltb-false room payloadMax d; flag = f; long = ltb-false (length bytes) 7 g; whole = e }
 
 frame-taken : (room : ℕ) (bytes : List ℕ) (control : ℕ) (p : List ℕ) → Opened room bytes (frame control p) → Taken control p bytes
 frame-taken room [] control p o = absurd (omega (arith, o .long))

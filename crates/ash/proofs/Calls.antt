@@ -48,7 +48,7 @@ pub record Reads (bytes before : List ℕ) (answer : FrameRead) (after : List �
   pub learnt : read-frame.Learnt lifetimes (lent-bytes, (lent-output, tt)) answer (lent-bytes, (left-output, tt))
 
 -- what such calls did, by the contracts
-was-written : {control : ℕ} {payload before : List ℕ} {answer : Written} {after : List ℕ} → Writes control payload before answer after
+pub was-written : {control : ℕ} {payload before : List ℕ} {answer : Written} {after : List ℕ} → Writes control payload before answer after
     → WritesAs (writeFrame (length before) control payload) before answer after
 was-written w = rw (w .payload-is, w .output-was, w .output-is) at (w .learnt)
 

@@ -1,6 +1,6 @@
 -- Every written frame is read back: header and payload are escaped exactly where they are reserved, the length says how many bytes of
 -- payload were sent, and the check bytes are computed anew.
-use mathlib.Core.Path.{_≡_, refl, ap₂, _∙_}
+use mathlib.Core.Path.{_≡_, refl, sym, ap, ap₂, _∙_}
 use mathlib.Core.Bool.{Bool, true, false, cond}
 use mathlib.Core.List.{List, _++_}
 use Prim.Native.Nat.{ℕ, _+_, _≤_}
@@ -20,7 +20,7 @@ use Rattle.ash.specs.Reading.{frame, readByLength, readByHeader, flagFir
 use Rattle.ash.proofs.ReservedLaws.{flipped-twice}
 use Rattle.ash.proofs.HeaderLaws.{length-decides}
 use Rattle.ash.proofs.ReadLaws.{same-check, length-right, header-good, long-enough}
-use Rattle.ash.proofs.WriteLaws.{frame-length}
+use Rattle.ash.proofs.WriteLaws.{frame-length, room-enough}
 use Rattle.ash.proofs.StuffTheorems.{unstuff-stuff}
 
 -- the two bits of a header escape byte, and no others
@@ -115,6 +115,13 @@ wrote room control p sent e = cases (ltb payloadMax (length (stuff p))) (ltb roo
           fits = rw same (ltb-false room (length (frameOf control p)) g);
           is = same;
         }
+
+-- what was written is written wherever it fits
+pub written-wherever : (room control : ℕ) (p sent : List ℕ) (room₁ : ℕ) → writeFrame room control p ≡ written sent → length sent ≤ room₁
+    → writeFrame room₁ control p ≡ written sent
+written-wherever room control p sent room₁ e fits =
+    let w = wrote room control p sent e in
+    room-enough room₁ control p (w .short) (omega (arith, frame-length control p, ap length (w .is))) ∙ ap written (sym (w .is))
 
 -- THEOREM. Whatever the writer wrote is read back as its control byte and payload.
 pub written-read-back : (room control : ℕ) (p sent : List ℕ) (room₁ : ℕ) → writeFrame room control p ≡ written sent → payloadMax ≤ room₁

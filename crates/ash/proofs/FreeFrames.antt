@@ -70,6 +70,7 @@ module _ (control : ℕ) (p : List ℕ) where
           let no = behind-free (stuff p) (checkBytes control p) i (ltb-false i (length (stuff p)) e) checks-free in
           let z : _≡_ {A = ℕ} 0 1 = cc in absurd (omega arith)
 
+  -- and that stands so in the frame
   payload-escape : (i : ℕ) → EscapeAt (stuff p) i → PayloadEscape (frameOf control p) (suc (suc (suc (suc i))))
   unfolding frameOf sentHeader
   payload-escape i e =

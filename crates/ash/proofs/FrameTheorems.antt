@@ -1,9 +1,9 @@
 -- Every written frame is read back: header and payload are escaped exactly where they are reserved, the length says how many bytes of
 -- payload were sent, and the check bytes are computed anew.
-use mathlib.Core.Path.{_≡_, refl, ap₂, _∙_}
+use mathlib.Core.Path.{_≡_, refl, sym, ap, ap₂, _∙_}
 use mathlib.Core.Bool.{Bool, true, false, cond}
 use mathlib.Core.List.{List, _++_}
-use Prim.Native.Nat.{ℕ, _+_, _%_, _≤_}
+use Prim.Native.Nat.{ℕ, _+_, _≤_}
 use native.Mathlib.Omega.{arith}
 use lib.Dec.{ltb}
 use lib.ListN.{length, take, drop, length-append}
@@ -13,27 +13,27 @@ use Rattle.refusals.specs.Numbers.{shortOutput, badLength}
 use Rattle.slices.proofs.SameLaws.{same-refl}
 use Rattle.ash.specs.Reserved.{reserved, unescaped, rightlyEscaped}
 use Rattle.ash.specs.Stuffing.{payloadMax, stuff, payload}
-use Rattle.ash.specs.Header.{headerEscape, sentByte, sentHeader, controlEscaped, lengthEscaped, goodHeader}
+use Rattle.ash.specs.Header.{escapeBits, headerEscape, sentByte, sentHeader, controlEscaped, lengthEscaped, noReservedBit, goodHeader}
 use Rattle.ash.specs.Check.{checkBytes}
 use Rattle.ash.specs.Writing.{frameOf, written, refused, writeFrame}
 use Rattle.ash.specs.Reading.{frame, readByLength, readByHeader, flagFirst, readFrame}
 use Rattle.ash.proofs.ReservedLaws.{flipped-twice}
 use Rattle.ash.proofs.HeaderLaws.{length-decides}
 use Rattle.ash.proofs.ReadLaws.{same-check, length-right, header-good, long-enough}
-use Rattle.ash.proofs.WriteLaws.{frame-length}
+use Rattle.ash.proofs.WriteLaws.{frame-length, room-enough}
 use Rattle.ash.proofs.StuffTheorems.{unstuff-stuff}
 
 -- the two bits of a header escape byte, and no others
 record Bits (escape : ℕ) (t u : Bool) : Type 0 where
-  rest : escape % 0x40 ≡ 0
+  no-others : noReservedBit escape ≡ true
   control : controlEscaped escape ≡ t
   size : lengthEscaped escape ≡ u
 
-bits : (t u : Bool) → Bits (cond t 0x80 0 + cond u 0x40 0) t u
-bits true true = record { rest = refl; control = refl; size = refl }
-bits true false = record { rest = refl; control = refl; size = refl }
-bits false true = record { rest = refl; control = refl; size = refl }
-bits false false = record { rest = refl; control = refl; size = refl }
+bits : (t u : Bool) → Bits (escapeBits t u) t u
+bits true true = record { no-others = refl; control = refl; size = refl }
+bits true false = record { no-others = refl; control = refl; size = refl }
+bits false true = record { no-others = refl; control = refl; size = refl }
+bits false false = record { no-others = refl; control = refl; size = refl }
 
 -- a byte of the header as it is sent is rightly escaped, and stands for itself
 record Sent (b : ℕ) : Type 0 where
@@ -50,7 +50,7 @@ sent-right b = cases (reserved b) refl
 header-read : (control size : ℕ) → goodHeader (headerEscape control size) (sentByte control) (sentByte size) ≡ true
 header-read control size =
     let b = bits (reserved control) (reserved size) in
-    length-decides (headerEscape control size) (sentByte control) (sentByte size) (b .rest) (rw (b .control) (sent-right control .right))
+    length-decides (headerEscape control size) (sentByte control) (sentByte size) (b .no-others) (rw (b .control) (sent-right control .right))
     ∙ rw (b .size) (sent-right size .right)
 
 -- the parts of a frame
@@ -115,6 +115,13 @@ wrote room control p sent e = cases (ltb payloadMax (length (stuff p))) (ltb roo
           fits = rw same (ltb-false room (length (frameOf control p)) g);
           is = same;
         }
+
+-- what was written is written wherever it fits
+pub written-wherever : (room control : ℕ) (p sent : List ℕ) (room₁ : ℕ) → writeFrame room control p ≡ written sent → length sent ≤ room₁
+    → writeFrame room₁ control p ≡ written sent
+written-wherever room control p sent room₁ e fits =
+    let w = wrote room control p sent e in
+    room-enough room₁ control p (w .short) (omega (arith, frame-length control p, ap length (w .is))) ∙ ap written (sym (w .is))
 
 -- THEOREM. Whatever the writer wrote is read back as its control byte and payload.
 pub written-read-back : (room control : ℕ) (p sent : List ℕ) (room₁ : ℕ) → writeFrame room control p ≡ written sent → payloadMax ≤ room₁

@@ -1,27 +1,23 @@
 -- A sent frame has no reserved byte but its flag and the escape bytes of its payload: header bytes are escaped where they are reserved,
--- a payload byte with bit 5 flipped is not reserved, and each reserved byte has bit 4 set, which no check byte has.
+-- so are those of the payload, and each reserved byte has bit 4 set, which no check byte has.
 use mathlib.Core.Path.{_≡_, refl}
-use mathlib.Core.Bool.{Bool, true, false, cond}
-use mathlib.Core.List.{List, [], _∷_, _++_}
+use mathlib.Core.Bool.{Bool, true, false}
+use mathlib.Core.List.{List, _++_}
 use mathlib.Core.Logic.{_⊎_, inl, inr}
 use Prim.Native.Nat.{ℕ, zero, suc, _+_, _-_, _*_, _/_, _%_, _≤_, _<_}
 use native.Mathlib.Omega.{arith}
 use lib.Dec.{ltb}
-use lib.ListN.{length, getD, length-append, List·getD-append}
+use lib.ListN.{length, getD, List·getD-append}
 use lib.Seq.{getD-append-add}
 use borrow.Author.Tests.{ltb-true, ltb-false}
-use Rattle.slices.specs.Each.{each}
-use Rattle.ash.specs.Reserved.{escapeByte, reserved, flipped}
-use Rattle.ash.specs.Stuffing.{stuffByte, stuff}
-use Rattle.ash.specs.Header.{sentByte, sentHeader}
+use Rattle.ash.specs.Reserved.{flagByte, reserved}
+use Rattle.ash.specs.Stuffing.{stuff}
+use Rattle.ash.specs.Header.{escapeBits, sentByte, sentHeader}
 use Rattle.ash.specs.Check.{bit4, withoutBit4, spread, checkOver, checkBytes}
 use Rattle.ash.specs.Writing.{frameOf}
-use Rattle.ash.proofs.ReservedLaws.{not-reserved, flipped-twice, flipped-free}
-use Rattle.ash.proofs.StuffLaws.{byte-escaped, byte-plain}
-
--- 002, 3.10: all reserved bytes have bit 4 set
-without-bit-4 : (b : ℕ) → b / 0x10 % 2 ≡ 0 → reserved b ≡ false
-without-bit-4 b h = not-reserved b (λ e. omega arith) (λ e. omega arith) (λ e. omega arith) (λ e. omega arith) (λ e. omega arith)
+use Rattle.ash.proofs.ReservedLaws.{without-bit-4, flipped-free}
+use Rattle.ash.proofs.WriteLaws.{frame-length}
+use Rattle.ash.proofs.FreePayload.{EscapeAt, earlier, later, stuffed-free}
 
 -- no check byte is reserved, nor is what stands for no byte
 check-free : (crc i : ℕ) → reserved (getD (spread crc) i 0) ≡ false
@@ -31,7 +27,7 @@ check-free crc (suc zero) = without-bit-4 (withoutBit4 (crc % 0x100)) (omega ari
 check-free crc (suc (suc zero)) = without-bit-4 (bit4 (crc / 0x100) * 0x80 + bit4 (crc % 0x100) * 0x40) (omega arith)
 check-free crc (suc (suc (suc i))) = without-bit-4 0 refl
 
-escape-free : (t u : Bool) → reserved (cond t 0x80 0 + cond u 0x40 0) ≡ false
+escape-free : (t u : Bool) → reserved (escapeBits t u) ≡ false
 unfolding reserved
 escape-free true true = refl
 escape-free true false = refl
@@ -45,66 +41,24 @@ sent-free b = cases (reserved b) refl
     cases true e = rw e (flipped-free b e)
     cases false e = rw e e
 
--- an escape byte with a byte behind it that stands, with bit 5 flipped, for a reserved one
-pub record EscapeAt (s : List ℕ) (i : ℕ) : Type 0 where
-  pub escape : getD s i 0 ≡ escapeByte
-  pub inside : suc i < length s
-  pub behind : reserved (flipped (getD s (suc i) 0)) ≡ true
-
--- the same behind other bytes
-later : (xs s : List ℕ) (i n : ℕ) → n ≡ length xs + i → EscapeAt s i → EscapeAt (xs ++ s) n
-later xs s i n place e =
-    let next : suc n ≡ length xs + suc i = omega arith in
-    record {
-      escape = rw (place, getD-append-add xs s i 0) (e .escape);
-      inside = rw length-append (omega (arith, e .inside));
-      behind = rw (next, getD-append-add xs s (suc i) 0) (e .behind);
-    }
-
--- one byte of payload more, if the others are so
-module _ (b : ℕ) (rest : List ℕ) (others : (i : ℕ) → reserved (getD rest i 0) ≡ true → EscapeAt rest i) where
-  pair-free : reserved b ≡ true → (i : ℕ) → reserved (getD (escapeByte ∷ flipped b ∷ rest) i 0) ≡ true → EscapeAt (escapeByte ∷ flipped b ∷ rest) i
-  pair-free e zero h = record { escape = refl; inside = omega arith; behind = rw (flipped-twice b) e }
-  pair-free e (suc zero) h =
-      let no = flipped-free b e in
-      let z : _≡_ {A = ℕ} 0 1 = cc in absurd (omega arith)
-  pair-free e (suc (suc i)) h = later (escapeByte ∷ flipped b ∷ []) rest i (suc (suc i)) (omega arith) (others i h)
-
-  byte-free : reserved b ≡ false → (i : ℕ) → reserved (getD (b ∷ rest) i 0) ≡ true → EscapeAt (b ∷ rest) i
-  byte-free e zero h = let z : _≡_ {A = ℕ} 0 1 = cc in absurd (omega arith)
-  byte-free e (suc i) h = later (b ∷ []) rest i (suc i) (omega arith) (others i h)
-
-  stuffed-more : (i : ℕ) → reserved (getD (stuffByte b ++ rest) i 0) ≡ true → EscapeAt (stuffByte b ++ rest) i
-  stuffed-more i = cases (reserved b) refl
-    where
-      cases : (t : Bool) → reserved b ≡ t → reserved (getD (stuffByte b ++ rest) i 0) ≡ true → EscapeAt (stuffByte b ++ rest) i
-      cases true e = rw (byte-escaped b e) (pair-free e i)
-      cases false e = rw (byte-plain b e) (byte-free e i)
-
--- a reserved byte of a stuffed payload is an escape byte of it
-stuffed-free : (p : List ℕ) (i : ℕ) → reserved (getD (stuff p) i 0) ≡ true → EscapeAt (stuff p) i
-unfolding each
-stuffed-free [] i h =
-    let no : reserved 0 ≡ false = without-bit-4 0 refl in
-    let z : _≡_ {A = ℕ} 0 1 = cc in absurd (omega arith)
-stuffed-free (b ∷ bs) i h = stuffed-more b (stuff bs) (stuffed-free bs) i h
-
 behind-free : (xs ys : List ℕ) (i : ℕ) → length xs ≤ i → ((j : ℕ) → reserved (getD ys j 0) ≡ false) → reserved (getD (xs ++ ys) i 0) ≡ false
 behind-free xs ys i past free =
     let place : i ≡ length xs + (i - length xs) = omega arith in
     rw (place, getD-append-add xs ys (i - length xs) 0) (free (i - length xs))
 
--- an escape byte of the payload, as a place of the frame: the payload stands behind the four bytes of the header
-pub record PayloadEscape (p : List ℕ) (i : ℕ) : Type 0 where
+-- an escape byte of the payload among the bytes of a frame: it stands behind the four bytes of the header, and the byte that it escapes before
+-- the three check bytes
+pub record PayloadEscape (bytes : List ℕ) (i : ℕ) : Type 0 where
   pub behind-header : 4 ≤ i
-  pub escapes : EscapeAt (stuff p) (i - 4)
+  pub before-check : suc i + 3 < length bytes
+  pub escapes : EscapeAt bytes i
 
--- so is one of payload and check bytes
 module _ (control : ℕ) (p : List ℕ) where
   checks-free : (i : ℕ) → reserved (getD (checkBytes control p) i 0) ≡ false
   unfolding checkOver
   checks-free i = check-free _ i
 
+  -- a reserved byte of payload and check bytes is an escape byte of the payload
   rest-free : (i : ℕ) → reserved (getD (stuff p ++ checkBytes control p) i 0) ≡ true → EscapeAt (stuff p) i
   rest-free i h = cases (ltb i (length (stuff p))) refl
     where
@@ -116,10 +70,22 @@ module _ (control : ℕ) (p : List ℕ) where
           let no = behind-free (stuff p) (checkBytes control p) i (ltb-false i (length (stuff p)) e) checks-free in
           let z : _≡_ {A = ℕ} 0 1 = cc in absurd (omega arith)
 
-  -- THEOREM. A reserved byte of a sent frame is its first byte, the flag, or an escape byte of its payload.
-  pub only-flag-and-escapes : (i : ℕ) → reserved (getD (frameOf control p) i 0) ≡ true → (i ≡ 0) ⊎ PayloadEscape p i
+  -- and that stands so in the frame
+  payload-escape : (i : ℕ) → EscapeAt (stuff p) i → PayloadEscape (frameOf control p) (suc (suc (suc (suc i))))
   unfolding frameOf sentHeader
-  only-flag-and-escapes zero h = inl refl
+  payload-escape i e =
+      let rest = earlier (stuff p) (checkBytes control p) i e in
+      record {
+        behind-header = omega arith;
+        before-check = omega (arith, frame-length control p, e .inside);
+        escapes = later (sentHeader control (length (stuff p))) (stuff p ++ checkBytes control p) i (suc (suc (suc (suc i)))) (omega arith) rest;
+      }
+
+  -- THEOREM. A reserved byte of a sent frame is its first byte, the flag, or an escape byte of its payload.
+  pub only-flag-and-escapes : (i : ℕ) → reserved (getD (frameOf control p) i 0) ≡ true
+      → ((i ≡ 0) × (getD (frameOf control p) i 0 ≡ flagByte)) ⊎ PayloadEscape (frameOf control p) i
+  unfolding frameOf sentHeader
+  only-flag-and-escapes zero h = inl (refl, refl)
   only-flag-and-escapes (suc zero) h =
       let no = escape-free (reserved control) (reserved (length (stuff p))) in
       let z : _≡_ {A = ℕ} 0 1 = cc in absurd (omega arith)
@@ -129,6 +95,4 @@ module _ (control : ℕ) (p : List ℕ) where
   only-flag-and-escapes (suc (suc (suc zero))) h =
       let no = sent-free (length (stuff p)) in
       let z : _≡_ {A = ℕ} 0 1 = cc in absurd (omega arith)
-  only-flag-and-escapes (suc (suc (suc (suc i)))) h =
-      let place : suc (suc (suc (suc i))) - 4 ≡ i = omega arith in
-      inr (record { behind-header = omega arith; escapes = rw place (rest-free i h) })
+  only-flag-and-escapes (suc (suc (suc (suc i)))) h = inr (payload-escape i (rest-free i h))

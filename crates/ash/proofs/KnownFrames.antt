@@ -1,17 +1,26 @@
 -- The definitions compute on concrete bytes: the frames of 002, 4.1 and 4.2, its examples of byte stuffing, and the two lengths whose byte
--- is escaped.
-use mathlib.Core.Path.{_≡_, refl}
+-- is escaped. What they say of the known frames each call does.
+use mathlib.Core.Path.{_≡_, refl, ap, _∙_}
 use mathlib.Core.List.{List, [], _∷_}
-use Prim.Native.Nat.{ℕ}
+use Prim.Native.Nat.{ℕ, _≤_}
+use lib.ListN.{length}
+use Rattle.slices.specs.Put.{putAt}
 use Rattle.slices.specs.Each.{each}
 use Rattle.slices.specs.Same.{sameBytes}
 use Rattle.crc.specs.Crc.{shiftBit, shiftBits, addByte, crcOf}
 use Rattle.ash.specs.Reserved.{reserved}
-use Rattle.ash.specs.Stuffing.{stuff, unstuffFrom}
+use Rattle.ash.specs.Stuffing.{payloadMax, stuff, unstuffFrom}
 use Rattle.ash.specs.Header.{headerOf, sentHeader, goodHeader}
 use Rattle.ash.specs.Check.{spread, checkOver}
 use Rattle.ash.specs.Writing.{frameOf, written, writeFrame}
 use Rattle.ash.specs.Reading.{frame, readByLength, readByHeader, readFrame}
+use Rattle.ash.specs.declared.reader.FrameRead.{FrameRead}
+use Rattle.ash.specs.declared.reader.FrameRead.the-variants.{Frame}
+use Rattle.ash.specs.declared.writer.Written.{Written}
+use Rattle.ash.specs.declared.writer.Written.the-variants.{Length}
+use Rattle.ash.proofs.FrameTheorems.{written-read-back}
+use Rattle.ash.proofs.Calls.{Writes, Reads}
+use Rattle.ash.proofs.FrameCalls.{call-reads, call-writes}
 
 -- 02, C-11: RESET has type 0, OFC 1 and AFC 0; RESET ACK has type 1, OFC 1 and AFC 1
 abbrev reset : List ℕ
@@ -27,6 +36,27 @@ known-written = (refl, refl)
 pub known-read : (readFrame 57 reset ≡ frame 0x08 []) × (readFrame 57 resetAcknowledgement ≡ frame 0x49 [])
 unfolding readFrame readByHeader readByLength goodHeader unstuffFrom sameBytes headerOf checkOver spread crcOf addByte shiftBits shiftBit reserved each
 known-read = (refl, refl)
+
+-- a frame without payload, sent and read by calls
+pub record Known (control : ℕ) (bytes : List ℕ) : Type 0 where
+  pub sends : (out : List ℕ) (answer : Written) (sent : List ℕ) → Writes control [] out answer sent → 7 ≤ length out
+      → (answer ≡ Length 7) × (sent ≡ putAt out 0 bytes)
+  pub reads : (before : List ℕ) (answer : FrameRead) (after : List ℕ) → Reads bytes before answer after → payloadMax ≤ length before
+      → (answer ≡ Frame control 0) × (after ≡ before)
+
+known : (control : ℕ) (bytes : List ℕ) → length bytes ≡ 7 → writeFrame 7 control [] ≡ written bytes → Known control bytes
+known control bytes size e =
+    record {
+      sends = λ out answer sent w fits.
+          let told = call-writes control [] bytes 7 out answer sent e w (rw size fits) in
+          (told .0 ∙ ap Length size, told .1);
+      reads = λ before answer after r asked.
+          call-reads bytes control [] before answer after (written-read-back 7 control [] bytes (length before) e asked) r;
+    }
+
+-- THEOREM. Calls send RESET and RESET ACK as these bytes, and read them back.
+pub known-calls : Known 0x08 reset × Known 0x49 resetAcknowledgement
+known-calls = (known 0x08 reset refl (known-written .0), known 0x49 resetAcknowledgement refl (known-written .1))
 
 -- 002, 3.10: the examples, and a byte that is not special within a frame
 stuffing-examples : stuff (0x7e ∷ 0x11 ∷ 0x13 ∷ 0x7d ∷ 0xf8 ∷ 0xff ∷ [])

@@ -8,7 +8,10 @@ pub mod ReadLaws
 pub mod StuffTheorems
 pub mod PayloadLaws
 pub mod FrameTheorems
+pub mod TakenLaws
 pub mod OnlyWritten
-pub mod FrameCalls
+pub mod Calls
+pub mod FreePayload
 pub mod FreeFrames
+pub mod FrameCalls
 pub mod KnownFrames

@@ -3,26 +3,24 @@
 use mathlib.Core.Path.{_≡_, refl, sym, ap, ap₂, _∙_}
 use mathlib.Core.Bool.{Bool, true, false, cond, _&&_}
 use mathlib.Core.List.{List, [], _∷_, _++_, append-assoc}
-use Prim.Native.Nat.{ℕ, suc, _+_, _*_, _/_, _%_, _≤_, _<_}
+use Prim.Native.Nat.{ℕ, suc, _+_, _≤_}
 use native.Mathlib.Omega.{arith}
-use lib.Dec.{eqb, ltb, leb}
-use lib.ListN.{length, take, drop, getD, take-append-drop}
+use lib.ListN.{length, take, drop, take-append-drop}
 use lib.Seq.{length-take-le}
-use borrow.Author.Tests.{eqb-true, eqb-false, leb-true, ltb-false, not-true}
-use Rattle.refusals.specs.Numbers.{shortOutput, badHeader, badLength, otherCheck}
-use Rattle.slices.specs.Same.{sameBytes}
-use Rattle.slices.proofs.SameLaws.{same-equal}
+use borrow.Author.Tests.{eqb-true, not-true}
+use Rattle.refusals.specs.Numbers.{badHeader}
 use Rattle.slices.proofs.TestLaws.{both}
 use Rattle.ash.specs.Reserved.{flagByte, reserved, unescaped, rightlyEscaped}
-use Rattle.ash.specs.Stuffing.{payloadMax, stuff, Unstuffed, payload, broken, unstuff}
-use Rattle.ash.specs.Header.{sentByte, sentHeader, controlEscaped, lengthEscaped, goodHeader}
+use Rattle.ash.specs.Stuffing.{payloadMax, stuff, payload, unstuff}
+use Rattle.ash.specs.Header.{escapeBits, sentByte, sentHeader, controlEscaped, lengthEscaped, noReservedBit, goodHeader}
 use Rattle.ash.specs.Check.{checkBytes}
 use Rattle.ash.specs.Writing.{frameOf, written, writeFrame}
-use Rattle.ash.specs.Reading.{Read, frame, refused, checked, readByLength, readByHeader, flagFirst, readFrame}
+use Rattle.ash.specs.Reading.{frame, refused, readByLength, readByHeader, readFrame}
 use Rattle.ash.proofs.ReservedLaws.{flipped-twice}
 use Rattle.ash.proofs.WriteLaws.{frame-length, room-enough}
 use Rattle.ash.proofs.StuffLaws.{stuff-least}
 use Rattle.ash.proofs.StuffTheorems.{stuff-unstuff}
+use Rattle.ash.proofs.TakenLaws.{sized-frame, Opened, opened}
 
 -- a header byte that is rightly escaped is sent so by the writer
 rightly-sent : (t : Bool) (s : ℕ) → rightlyEscaped t s ≡ true → (reserved (unescaped t s) ≡ t) × (sentByte (unescaped t s) ≡ s)
@@ -31,34 +29,19 @@ rightly-sent false s e =
     let free = not-true (reserved s) e in
     (free, rw free)
 
--- a bit as what it stands for
-bit-marks : (n mark : ℕ) → cond (eqb (n % 2) 1) mark 0 ≡ n % 2 * mark
-bit-marks n mark = cases (eqb (n % 2) 1) refl
-  where
-    cases : (t : Bool) → eqb (n % 2) 1 ≡ t → cond t mark 0 ≡ n % 2 * mark
-    cases true e = rw (eqb-true (n % 2) 1 e) (omega arith)
-    cases false e =
-        let other = eqb-false (n % 2) 1 e in
-        let none : n % 2 ≡ 0 = omega arith in
-        rw none (omega arith)
-
--- a header escape byte without reserved bits is the sum of its two bits
-sum-of-bits : (escape : ℕ) → escape < 0x100 → escape % 0x40 ≡ 0
-    → cond (controlEscaped escape) 0x80 0 + cond (lengthEscaped escape) 0x40 0 ≡ escape
-sum-of-bits escape h e = rw (bit-marks (escape / 0x80) 0x80, bit-marks (escape / 0x40) 0x40) (omega arith)
-
 -- what a good header stands for is sent by the writer as that header
-good-sent : (escape control size : ℕ) → escape < 0x100 → goodHeader escape control size ≡ true
+good-sent : (escape control size : ℕ) → goodHeader escape control size ≡ true
     → sentHeader (unescaped (controlEscaped escape) control) (unescaped (lengthEscaped escape) size) ≡ flagByte ∷ escape ∷ control ∷ size ∷ []
 unfolding goodHeader sentHeader
-good-sent escape control size h e =
-    let first = both (eqb (escape % 0x40) 0) (rightlyEscaped (controlEscaped escape) control && rightlyEscaped (lengthEscaped escape) size) e in
+good-sent escape control size e =
+    let first = both (noReservedBit escape) (rightlyEscaped (controlEscaped escape) control && rightlyEscaped (lengthEscaped escape) size) e in
     let others = both (rightlyEscaped (controlEscaped escape) control) (rightlyEscaped (lengthEscaped escape) size) (first .second) in
     let c = rightly-sent (controlEscaped escape) control (others .first) in
     let n = rightly-sent (lengthEscaped escape) size (others .second) in
-    rw (c .1, n .1, c .0, n .0) (ap (λ (x : ℕ). flagByte ∷ x ∷ control ∷ size ∷ []) (sum-of-bits escape h (eqb-true (escape % 0x40) 0 (first .first))))
+    let held = eqb-true escape (escapeBits (controlEscaped escape) (lengthEscaped escape)) (first .first) in
+    rw (c .1, n .1, c .0, n .0) (ap (λ (x : ℕ). flagByte ∷ x ∷ control ∷ size ∷ []) (sym held))
 
--- a frame that was taken had every test passed
+-- a frame that was taken is that of its control byte and payload
 record Taken (control : ℕ) (p bytes : List ℕ) : Type 0 where
   short : length (stuff p) ≤ payloadMax
   is : bytes ≡ frameOf control p
@@ -78,50 +61,6 @@ module _ (control size : ℕ) (p rest : List ℕ) (header : List ℕ) (unstuffed
       let headed = ap (λ (h : List ℕ). h ++ stuff p ++ checkBytes control p) front in
       sym (headed ∙ append-assoc header (stuff p) (checkBytes control p) ∙ ap (λ (l : List ℕ). header ++ l) parts)
 
--- what a payload and its check bytes were taken as
-record Checked (control : ℕ) (check : List ℕ) (found : Unstuffed) (control₁ : ℕ) (p : List ℕ) : Type 0 where
-  same-control : control ≡ control₁
-  unstuffed : found ≡ payload p
-  same-bytes : check ≡ checkBytes control₁ p
-
-checked-frame : (control : ℕ) (check : List ℕ) (found : Unstuffed) (control₁ : ℕ) (p : List ℕ) → checked control check found ≡ frame control₁ p
-    → Checked control check found control₁ p
-checked-frame control check broken control₁ p e = let z : _≡_ {A = ℕ} 0 1 = cc in absurd (omega arith)
-checked-frame control check (payload q) control₁ p e = cases (sameBytes check (checkBytes control q)) refl e
-  where
-    cases : (t : Bool) → sameBytes check (checkBytes control q) ≡ t → cond t (frame control q) (refused otherCheck) ≡ frame control₁ p
-        → Checked control check (payload q) control₁ p
-    cases false f e = let z : _≡_ {A = ℕ} 0 1 = cc in absurd (omega arith)
-    cases true f e =
-        let c : control ≡ control₁ = cc in
-        let is : q ≡ p = cc in
-        record { same-control = c; unstuffed = ap payload is; same-bytes = same-equal check (checkBytes control q) f ∙ ap₂ checkBytes c is }
-
--- what a length was taken for
-record Sized (control size : ℕ) (bytes : List ℕ) (control₁ : ℕ) (p : List ℕ) : Type 0 where
-  small : size ≤ payloadMax
-  whole : length bytes ≡ size + 7
-  parts : Checked control (drop (size + 4) bytes) (unstuff (take size (drop 4 bytes))) control₁ p
-
-sized-frame : (control size : ℕ) (bytes : List ℕ) (control₁ : ℕ) (p : List ℕ) → readByLength control size bytes ≡ frame control₁ p
-    → Sized control size bytes control₁ p
-unfolding readByLength
-sized-frame control size bytes control₁ p e = cases (leb size payloadMax && eqb (length bytes) (size + 7)) refl e
-  where
-    found : Read
-    found = checked control (drop (size + 4) bytes) (unstuff (take size (drop 4 bytes)))
-
-    cases : (t : Bool) → (leb size payloadMax && eqb (length bytes) (size + 7)) ≡ t → cond t found (refused badLength) ≡ frame control₁ p
-        → Sized control size bytes control₁ p
-    cases false f e = let z : _≡_ {A = ℕ} 0 1 = cc in absurd (omega arith)
-    cases true f e =
-        let two = both (leb size payloadMax) (eqb (length bytes) (size + 7)) f in
-        record {
-          small = leb-true size payloadMax (two .first);
-          whole = eqb-true (length bytes) (size + 7) (two .second);
-          parts = checked-frame control (drop (size + 4) bytes) (unstuff (take size (drop 4 bytes))) control₁ p e;
-        }
-
 -- a whole frame behind its flag
 module _ (escape first second : ℕ) (rest : List ℕ) where
   abbrev meant : ℕ
@@ -136,16 +75,16 @@ module _ (escape first second : ℕ) (rest : List ℕ) where
   behind-header : (n : ℕ) → drop n rest ≡ drop (n + 4) bytes
   behind-header n = let same : n + 4 ≡ suc (suc (suc (suc n))) = omega arith in rw same
 
-  whole-frame : (control : ℕ) (p : List ℕ) → escape < 0x100 → readByHeader bytes ≡ frame control p → Taken control p bytes
+  whole-frame : (control : ℕ) (p : List ℕ) → readByHeader bytes ≡ frame control p → Taken control p bytes
   unfolding readByHeader
-  whole-frame control p h e = cases (goodHeader escape first second) refl e
+  whole-frame control p e = cases (goodHeader escape first second) refl e
     where
       cases : (t : Bool) → goodHeader escape first second ≡ t → cond t (readByLength meant size-meant bytes) (refused badHeader) ≡ frame control p
           → Taken control p bytes
       cases false f e = let z : _≡_ {A = ℕ} 0 1 = cc in absurd (omega arith)
       cases true f e =
           let s = sized-frame meant size-meant bytes control p e in
-          let header : sentHeader control size-meant ≡ flagByte ∷ escape ∷ first ∷ second ∷ [] = rw (← s .parts .same-control) (good-sent escape first second h f) in
+          let header : sentHeader control size-meant ≡ flagByte ∷ escape ∷ first ∷ second ∷ [] = rw (← s .parts .same-control) (good-sent escape first second f) in
           let enough : size-meant ≤ length rest = omega (arith, s .whole) in
           let check : drop size-meant rest ≡ checkBytes control p = behind-header size-meant ∙ s .parts .same-bytes in
           let fits = sized control size-meant p rest (flagByte ∷ escape ∷ first ∷ second ∷ []) (s .parts .unstuffed) enough header check in
@@ -154,41 +93,21 @@ module _ (escape first second : ℕ) (rest : List ℕ) where
             is = assembled control size-meant p rest (flagByte ∷ escape ∷ first ∷ second ∷ []) (s .parts .unstuffed) enough header check;
           }
 
--- a frame that was taken had an output of 57 bytes, a flag first and seven bytes
-record Opened (room : ℕ) (bytes : List ℕ) (found : Read) : Type 0 where
-  asked : payloadMax ≤ room
-  flag : flagFirst bytes ≡ true
-  long : 7 ≤ length bytes
-  whole : readByHeader bytes ≡ found
-
-opened : (room : ℕ) (bytes : List ℕ) (control : ℕ) (p : List ℕ) → readFrame room bytes ≡ frame control p → Opened room bytes (frame control p)
-unfolding readFrame
-opened room bytes control p e = cases (ltb room payloadMax) (flagFirst bytes) (ltb (length bytes) 7) refl refl refl e
-  where
-    cases : (t u v : Bool) → ltb room payloadMax ≡ t → flagFirst bytes ≡ u → ltb (length bytes) 7 ≡ v
-        → cond t (refused shortOutput) (cond u (cond v (refused badLength) (readByHeader bytes)) (refused badHeader)) ≡ frame control p
-        → Opened room bytes (frame control p)
-    cases true u v d f g e = let z : _≡_ {A = ℕ} 0 1 = cc in absurd (omega arith)
-    cases false false v d f g e = let z : _≡_ {A = ℕ} 0 1 = cc in absurd (omega arith)
-    cases false true true d f g e = let z : _≡_ {A = ℕ} 0 1 = cc in absurd (omega arith)
-    cases false true false d f g e = record { asked = ltb-false room payloadMax d; flag = f; long = ltb-false (length bytes) 7 g; whole = e }
-
-frame-taken : (room : ℕ) (bytes : List ℕ) (control : ℕ) (p : List ℕ) → getD bytes 1 0 < 0x100 → Opened room bytes (frame control p) → Taken control p bytes
-frame-taken room [] control p h o = absurd (omega (arith, o .long))
-frame-taken room (a ∷ []) control p h o = absurd (omega (arith, o .long))
-frame-taken room (a ∷ b ∷ []) control p h o = absurd (omega (arith, o .long))
-frame-taken room (a ∷ b ∷ c ∷ []) control p h o = absurd (omega (arith, o .long))
-frame-taken room (a ∷ b ∷ c ∷ d ∷ rest) control p h o =
+frame-taken : (room : ℕ) (bytes : List ℕ) (control : ℕ) (p : List ℕ) → Opened room bytes (frame control p) → Taken control p bytes
+frame-taken room [] control p o = absurd (omega (arith, o .long))
+frame-taken room (a ∷ []) control p o = absurd (omega (arith, o .long))
+frame-taken room (a ∷ b ∷ []) control p o = absurd (omega (arith, o .long))
+frame-taken room (a ∷ b ∷ c ∷ []) control p o = absurd (omega (arith, o .long))
+frame-taken room (a ∷ b ∷ c ∷ d ∷ rest) control p o =
     let flag : a ≡ flagByte = eqb-true a flagByte (o .flag) in
     let whole : readByHeader (flagByte ∷ b ∷ c ∷ d ∷ rest) ≡ frame control p = rw flag at (o .whole) in
-    rw flag (whole-frame b c d rest control p h whole)
+    rw flag (whole-frame b c d rest control p whole)
 
--- THEOREM. A frame is taken only if it is exactly what the writer writes for its control byte and payload. (The elements of a list are
--- any numbers; that the header escape is a byte is therefore asked.)
-module _ (room : ℕ) (bytes : List ℕ) (control : ℕ) (p : List ℕ) (byte : getD bytes 1 0 < 0x100) (e : readFrame room bytes ≡ frame control p) where
+-- THEOREM. A frame is taken only if it is exactly what the writer writes for its control byte and payload.
+module _ (room : ℕ) (bytes : List ℕ) (control : ℕ) (p : List ℕ) (e : readFrame room bytes ≡ frame control p) where
   pub only-written : writeFrame (length bytes) control p ≡ written bytes
   only-written =
-      let t = frame-taken room bytes control p byte (opened room bytes control p e) in
+      let t = frame-taken room bytes control p (opened room bytes control p e) in
       let fits : 7 + length (stuff p) ≤ length bytes = omega (arith, frame-length control p, ap length (t .is)) in
       room-enough (length bytes) control p (t .short) fits ∙ ap written (sym (t .is))
 
@@ -196,5 +115,5 @@ module _ (room : ℕ) (bytes : List ℕ) (control : ℕ) (p : List ℕ) (byte : 
   pub taken-fits : length p ≤ room
   taken-fits =
       let o = opened room bytes control p e in
-      let t = frame-taken room bytes control p byte o in
+      let t = frame-taken room bytes control p o in
       omega (arith, o .asked, t .short, stuff-least p)

@@ -30,6 +30,10 @@ unfolding reserved
 not-reserved b flag escape xon xoff unnamed =
     rw (ne-eqb b 0x7e flag, ne-eqb b 0x7d escape, ne-eqb b 0x11 xon, ne-eqb b 0x13 xoff, ne-eqb b 0xf8 unnamed)
 
+-- 002, 3.10: all reserved bytes have bit 4 set
+pub without-bit-4 : (b : ℕ) → b / 0x10 % 2 ≡ 0 → reserved b ≡ false
+without-bit-4 b h = not-reserved b (λ e. omega arith) (λ e. omega arith) (λ e. omega arith) (λ e. omega arith) (λ e. omega arith)
+
 -- a byte that is not reserved is none that is
 pub unlike-reserved : (b v : ℕ) → reserved b ≡ false → reserved v ≡ true → b ≡ v → ⊥
 unlike-reserved b v free is e = let z : _≡_ {A = ℕ} 0 1 = cc in omega arith

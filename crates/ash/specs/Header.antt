@@ -6,8 +6,12 @@ use lib.Dec.{eqb}
 use Rattle.ash.specs.Reserved.{flagByte, reserved, flipped, rightlyEscaped}
 
 -- 80 hex if the control byte is escaped, plus 40 if the length byte is
+abbrev pub escapeBits : Bool → Bool → ℕ
+escapeBits control size = cond control 0x80 0 + cond size 0x40 0
+
+-- each of the two is escaped where it is reserved
 abbrev pub headerEscape : ℕ → ℕ → ℕ
-headerEscape control size = cond (reserved control) 0x80 0 + cond (reserved size) 0x40 0
+headerEscape control size = escapeBits (reserved control) (reserved size)
 
 -- before escaping
 unfoldable pub headerOf : ℕ → ℕ → List ℕ
@@ -27,7 +31,11 @@ controlEscaped escape = eqb (escape / 0x80 % 2) 1
 abbrev pub lengthEscaped : ℕ → Bool
 lengthEscaped escape = eqb (escape / 0x40 % 2) 1
 
--- no reserved bit is set, and no header escape is needless or missing
+-- no reserved bit is set: the byte is the sum of those two
+abbrev pub noReservedBit : ℕ → Bool
+noReservedBit escape = eqb escape (escapeBits (controlEscaped escape) (lengthEscaped escape))
+
+-- C-11, refusal 21: no reserved bit is set, and no header escape is needless or missing
 unfoldable pub goodHeader : ℕ → ℕ → ℕ → Bool
 goodHeader escape control size =
-    eqb (escape % 0x40) 0 && (rightlyEscaped (controlEscaped escape) control && rightlyEscaped (lengthEscaped escape) size)
+    noReservedBit escape && (rightlyEscaped (controlEscaped escape) control && rightlyEscaped (lengthEscaped escape) size)

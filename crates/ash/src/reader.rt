@@ -92,7 +92,7 @@ fn read_payload(control: u8, sent: &[u8], check: &[u8], out: &mut [u8]) -> Frame
     requires { ⌜ length (now sent) ≤ payloadMax ⌝ }
     ensures { λ r. ⌜ ReadsAs (checked control (now (check .entry)) (unstuff (now (sent .entry)))) (now (out .entry)) r (now (out .exit)) ⌝ }
 {
-    let mut payload = [0u8; 57];
+    let mut payload = [0u8; PAYLOAD_MAX];
     let length = unstuff(sent, &mut payload);
     if length == BROKEN {
         return FrameRead::Refused(BAD_STUFFING);

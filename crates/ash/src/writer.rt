@@ -31,7 +31,7 @@ pub enum Written {
 pub fn write_frame(control: u8, payload: &[u8], out: &mut [u8]) -> Written
     ensures { λ r. ⌜ WritesAs (writeFrame (length (now (out .entry))) control (now (payload .entry))) (now (out .entry)) r (now (out .exit)) ⌝ }
 {
-    let mut sent = [0u8; 57];
+    let mut sent = [0u8; PAYLOAD_MAX];
     let length = put_stuffed(&mut sent, payload);
     if PAYLOAD_MAX < length {
         return Written::Refused(BAD_LENGTH);

@@ -1,0 +1,146 @@
+-- Calls of the frame writer and the reader, by the contracts that the toolchain reads off the source (`Learnt`): a contract that says less
+-- breaks what is built on this.
+use mathlib.Core.Path.{_≡_, refl, ap, _∙_}
+use mathlib.Core.List.{List, []}
+use Prim.Native.Nat.{ℕ, _+_, _≤_}
+use denote.Ref.{RefT}
+use contract.Lifetimes.{Lfts}
+use native.Mathlib.Omega.{arith}
+use lib.ListN.{length, take}
+use Rattle.slices.specs.Put.{putAt}
+use Rattle.slices.proofs.PutLaws.{put-first}
+use Rattle.ash.specs.Stuffing.{payloadMax, stuff}
+use Rattle.ash.specs.Writing as writing
+use Rattle.ash.specs.Writing.{frameOf, writeFrame}
+use Rattle.ash.specs.Reading as reading
+use Rattle.ash.specs.Reading.{readFrame}
+use Rattle.ash.specs.Answers.{readAnswer, readPayload, ReadsAs, writeAnswer, writtenBytes, WritesAs}
+use Rattle.ash.specs.declared.reader.FrameRead.{FrameRead}
+use Rattle.ash.specs.declared.reader.FrameRead.the-variants.{Frame}
+use Rattle.ash.specs.declared.writer.Written.{Written}
+use Rattle.ash.specs.declared.writer.Written.the-variants.{Length}
+use Rattle.ash.proofs.WriteLaws.{frame-length, room-enough}
+use Rattle.ash.proofs.FrameTheorems.{wrote}
+use Rattle.ash.proofs.OnlyWritten.{taken-fits}
+use Rattle.ash.proofs.writer.write_frame.Reads as write-frame
+use Rattle.ash.proofs.reader.read_frame.Reads as read-frame
+
+-- a call of `write_frame`: the slices lent hold the payload and the output as it was, and at exit the output as it is
+pub record Writes (control : ℕ) (payload before : List ℕ) (answer : Written) (after : List ℕ) : Type 0 where
+  pub lifetimes : Lfts 2
+  pub lent-payload : RefT (List ℕ)
+  pub lent-output : RefT (List ℕ)
+  pub left-output : RefT (List ℕ)
+  pub payload-is : lent-payload .now ≡ payload
+  pub output-was : lent-output .now ≡ before
+  pub output-is : left-output .now ≡ after
+  pub learnt : write-frame.Learnt lifetimes (control, (lent-payload, (lent-output, tt))) answer (control, (lent-payload, (left-output, tt)))
+
+-- a call of `read_frame`
+pub record Reads (bytes before : List ℕ) (answer : FrameRead) (after : List ℕ) : Type 0 where
+  pub lifetimes : Lfts 2
+  pub lent-bytes : RefT (List ℕ)
+  pub lent-output : RefT (List ℕ)
+  pub left-output : RefT (List ℕ)
+  pub bytes-are : lent-bytes .now ≡ bytes
+  pub output-was : lent-output .now ≡ before
+  pub output-is : left-output .now ≡ after
+  pub learnt : read-frame.Learnt lifetimes (lent-bytes, (lent-output, tt)) answer (lent-bytes, (left-output, tt))
+
+-- what such calls did, by the contracts
+pub was-written : {control : ℕ} {payload before : List ℕ} {answer : Written} {after : List ℕ} → Writes control payload before answer after
+    → WritesAs (writeFrame (length before) control payload) before answer after
+was-written w = rw (w .payload-is, w .output-was, w .output-is) at (w .learnt)
+
+pub was-read : {bytes before : List ℕ} {answer : FrameRead} {after : List ℕ} → Reads bytes before answer after
+    → ReadsAs (readFrame (length before) bytes) before answer after
+was-read r = rw (r .bytes-are, r .output-was, r .output-is) at (r .learnt)
+
+-- a length is answered only for a frame that was written, a frame only where one was found
+record Told (result : writing.Written) (n : ℕ) : Type 0 where
+  sent : List ℕ
+  is : result ≡ writing.written sent
+  size : n ≡ length sent
+
+told : (result : writing.Written) (n : ℕ) → Length n ≡ writeAnswer result → Told result n
+told (writing.written sent) n e = record { sent = sent; is = refl; size = let same : n ≡ length sent = cc in same }
+told (writing.refused m) n e = let z : _≡_ {A = ℕ} 0 1 = cc in absurd (omega arith)
+
+record Found (result : reading.Read) (control n : ℕ) : Type 0 where
+  payload : List ℕ
+  is : result ≡ reading.frame control payload
+  size : n ≡ length payload
+
+found : (result : reading.Read) (control n : ℕ) → Frame control n ≡ readAnswer result → Found result control n
+found (reading.frame c p) control n e =
+    let same : c ≡ control = cc in
+    record { payload = p; is = ap (λ (x : ℕ). reading.frame x p) same; size = let size : n ≡ length p = cc in size }
+found (reading.refused m) control n e = let z : _≡_ {A = ℕ} 0 1 = cc in absurd (omega arith)
+
+-- bytes put at the start of an output with room, told by their number
+put-told : (out after xs : List ℕ) (n : ℕ) → after ≡ putAt out 0 xs → n ≡ length xs → length xs ≤ length out → take n after ≡ xs
+put-told out after xs n put size fits = rw (put, size) (put-first out xs fits)
+
+-- where a call answered a length n, the payload is of at most 57 bytes as sent and the first n bytes of the output are its frame
+pub record FrameOut (control : ℕ) (payload : List ℕ) (n : ℕ) (after : List ℕ) : Type 0 where
+  pub short : length (stuff payload) ≤ payloadMax
+  pub is : take n after ≡ frameOf control payload
+
+pub frame-out : {control : ℕ} {payload before : List ℕ} {n : ℕ} {after : List ℕ} → Writes control payload before (Length n) after
+    → FrameOut control payload n after
+frame-out {control} {payload} {before} {n} {after} w =
+    let did = was-written w in
+    let t = told (writeFrame (length before) control payload) n (did .answers) in
+    let frame = wrote (length before) control payload (t .sent) (t .is) in
+    let put : after ≡ putAt before 0 (t .sent) = did .output ∙ ap (λ (x : writing.Written). putAt before 0 (writtenBytes x)) (t .is) in
+    record { short = frame .short; is = put-told before after (t .sent) n put (t .size) (frame .fits) ∙ frame .is }
+
+-- where a call answered a control byte and n, the first n bytes of the output are the payload of the frame
+pub frame-in : {bytes before : List ℕ} {control n : ℕ} {after : List ℕ} → Reads bytes before (Frame control n) after
+    → readFrame (length before) bytes ≡ reading.frame control (take n after)
+frame-in {bytes} {before} {control} {n} {after} r =
+    let did = was-read r in
+    let f = found (readFrame (length before) bytes) control n (did .answers) in
+    let put : after ≡ putAt before 0 (f .payload) = did .output ∙ ap (λ (x : reading.Read). putAt before 0 (readPayload x)) (f .is) in
+    let fits = taken-fits (length before) bytes control (f .payload) (f .is) in
+    rw (put-told before after (f .payload) n put (f .size) fits) (f .is)
+
+-- Such calls are there, since the contracts ask nothing: one for all that can be lent.
+abbrev slice : List ℕ → RefT (List ℕ)
+slice bytes = record { ptr = (0, 0); name = 0; now = bytes }
+
+pub all-payloads-are-written : (control : ℕ) (payload before : List ℕ)
+    → Writes control payload before (writeAnswer (writeFrame (length before) control payload))
+    (putAt before 0 (writtenBytes (writeFrame (length before) control payload)))
+all-payloads-are-written control payload before =
+    record {
+      lifetimes = ([], ([], tt));
+      lent-payload = slice payload;
+      lent-output = slice before;
+      left-output = slice (putAt before 0 (writtenBytes (writeFrame (length before) control payload)));
+      payload-is = refl;
+      output-was = refl;
+      output-is = refl;
+      learnt = record { answers = refl; output = refl };
+    }
+
+pub all-bytes-are-read : (bytes before : List ℕ)
+    → Reads bytes before (readAnswer (readFrame (length before) bytes)) (putAt before 0 (readPayload (readFrame (length before) bytes)))
+all-bytes-are-read bytes before =
+    record {
+      lifetimes = ([], ([], tt));
+      lent-bytes = slice bytes;
+      lent-output = slice before;
+      left-output = slice (putAt before 0 (readPayload (readFrame (length before) bytes)));
+      bytes-are = refl;
+      output-was = refl;
+      output-is = refl;
+      learnt = record { answers = refl; output = refl };
+    }
+
+-- A payload of at most 57 bytes as sent, lent with room for its frame, is answered by the frame's length.
+pub every-frame-is-written : (control : ℕ) (payload before : List ℕ) → length (stuff payload) ≤ payloadMax
+    → 7 + length (stuff payload) ≤ length before
+    → Writes control payload before (Length (7 + length (stuff payload))) (putAt before 0 (frameOf control payload))
+every-frame-is-written control payload before short fits =
+    rw (← frame-length control payload) (rw (room-enough (length before) control payload short fits) at (all-payloads-are-written control payload before))

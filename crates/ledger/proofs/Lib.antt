@@ -14,3 +14,4 @@ pub mod AtOnce
 pub mod UpdateLaws
 pub mod LastAcceptedLaws
 pub mod CurrentWhen
+pub mod RefusedCalls

@@ -1,13 +1,12 @@
 -- Every good list of names is accepted: each of them may join those before it, since it is valid, differs from them, and is not one too
 -- many.
 use mathlib.Core.Path.{_≡_, refl, sym, ap, _∙_}
-use mathlib.Core.Bool.{Bool, true, false, not, _&&_}
+use mathlib.Core.Bool.{true, false, not}
 use mathlib.Core.List.{List, [], _∷_, _++_, append-assoc, append-nil}
-use mathlib.Core.Option.{Option, some}
+use mathlib.Core.Option.{some}
 use Prim.Native.Nat.{ℕ, suc, _+_, _/_, _%_, _≤_, _<_}
 use native.Mathlib.Omega.{arith}
-use lib.Dec.{ltb}
-use lib.ListN.{length, take, drop, length-append}
+use lib.ListN.{length, length-append}
 use lib.Seq.{take-append-seam, drop-append-seam}
 use borrow.Author.Tests.{lt-ltb, le-leb, not-true}
 use Rattle.slices.specs.Same.{sameBytes}
@@ -17,7 +16,7 @@ use Rattle.packet.specs.Names.{validName}
 use Rattle.rows.specs.Names.{placeFrom, isIn}
 use Rattle.rows.specs.Rows.{rowCount}
 use Rattle.rows.proofs.NameLaws.{in-shift, not-in, differ}
-use Rattle.board.specs.WatchList.{Good, allValid, distinct, mayJoin, isWhole, namesFrom, watchNames, nameField, fieldsOf, fieldOf}
+use Rattle.board.specs.WatchList.{Good, allValid, distinct, mayJoin, namesFrom, watchNames, nameField, fieldsOf, fieldOf}
 use Rattle.board.proofs.FieldLaws.{field-next}
 
 module _ (name : List ℕ) (later : List (List ℕ)) where

@@ -2,31 +2,30 @@
 -- good data frame with it, not 0, is dropped, and every other one is new and read.
 use mathlib.Core.Path.{_≡_, refl, sym, ap, _∙_}
 use mathlib.Core.Bool.{Bool, true, false, cond, _||_}
-use mathlib.Core.List.{List, [], _∷_, _++_, map, append-cancel-left}
+use mathlib.Core.List.{List, [], _∷_, map, append-cancel-left}
 use mathlib.Core.Option.{Option, some, none}
 use Prim.Native.Nat.{ℕ, _-_}
 use native.Mathlib.Omega.{arith}
 use lib.Dec.{eqb, ltb}
 use lib.ListN.{length}
-use borrow.Author.Tests.{eqb-true, eq-eqb, ne-eqb}
+use borrow.Author.Tests.{eq-eqb, ne-eqb}
 use Rattle.slices.specs.Put.{putAt}
 use Rattle.rows.specs.Entries.{boardShowing}
 use Rattle.board.specs.Reading.{readBoard}
-use Rattle.link.specs.Walk.{Walk, walkOf}
-use Rattle.display.specs.declared.Answer as display-answer
+use Rattle.link.specs.Walk.{walkOf}
 use Rattle.display.specs.declared.Answer.the-variants.{Again, New}
 use Rattle.display.specs.declared.Display.{Display}
-use Rattle.ledger.specs.Ledger.{Ledger, Entry, start}
+use Rattle.ledger.specs.Ledger.{Ledger, start}
 use Rattle.ledger.specs.Frames as frames
-use Rattle.ledger.specs.Frames.{Frame, Taken, taken, frameOf}
+use Rattle.ledger.specs.Frames.{Taken, taken, frameOf}
 use Rattle.ledger.specs.Answers as given
 use Rattle.ledger.specs.Answers.{WatchList, namesIn, Call, piece}
 use Rattle.ledger.specs.Calls as calls
 use Rattle.ledger.specs.Calls.{Effect, answerTo, repeated, closed, withRun, pieceStep, shortStep, step, after}
-use Rattle.ledger.specs.Shown.{asEntry, asReading, Left, took, asLeft}
-use Rattle.ledger.specs.History.{Event, eventsOf, history}
+use Rattle.ledger.specs.Shown.{asEntry, Left, took, asLeft}
+use Rattle.ledger.specs.History.{eventsOf, history}
 use Rattle.ledger.specs.ClosedFrames.{framesFrom, framesIn, Closes, lastSequence}
-use Rattle.ledger.proofs.FrameAgreement.{Shows, read-shown, read-answered}
+use Rattle.ledger.proofs.FrameAgreement.{read-shown, read-answered}
 use Rattle.ledger.proofs.Chain.{Begins, Chain}
 use Rattle.ledger.proofs.EveryList.{Agreed, chain-agrees, Agreeing, agreeing}
 use Rattle.ledger.proofs.ByEvents.{afterHistory, frames-append, history-sequence}

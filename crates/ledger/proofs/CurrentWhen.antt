@@ -3,7 +3,7 @@
 use mathlib.Core.Path.{_≡_, refl, sym, ap, _∙_}
 use mathlib.Core.Bool.{Bool, true, false, cond}
 use mathlib.Core.List.{List, [], _∷_, _++_, map}
-use mathlib.Core.Option.{Option, some, none}
+use mathlib.Core.Option.{some, none}
 use mathlib.Core.Logic.{_↔_, _⊎_, inl, inr}
 use Prim.Native.Nat.{ℕ, suc, _-_, _≤_, _<_}
 use native.Mathlib.Omega.{arith}
@@ -19,7 +19,6 @@ use Rattle.rows.specs.Names.{placeFrom, placeOf}
 use Rattle.rows.specs.Rows.{rowCount, rowName, freshRow}
 use Rattle.rows.specs.declared.Board.{Board}
 use Rattle.rows.specs.declared.Row.{Row}
-use Rattle.rows.specs.declared.State.{State}
 use Rattle.rows.specs.declared.State.the-variants.{Never, Current, Silent}
 use Rattle.board.proofs.WatchLaws.{Fits, fresh-name}
 use Rattle.display.specs.declared.Display.{Display}
@@ -30,7 +29,7 @@ use Rattle.ledger.specs.LastAccepted.{allAccepted, LastAccepted, rowAt}
 use Rattle.ledger.proofs.Chain.{Begins, Chain}
 use Rattle.ledger.proofs.EveryList.{Agreeing, agreeing, fresh-named}
 use Rattle.ledger.proofs.UpdateLaws.{lastUpdate, afterCalls, after-followed}
-use Rattle.ledger.proofs.LastAcceptedLaws.{updateOf, last-is, Found, found, none-is}
+use Rattle.ledger.proofs.LastAcceptedLaws.{last-is, Found, found, none-is}
 
 -- ---- the row of a name
 

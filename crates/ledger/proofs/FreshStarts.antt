@@ -7,7 +7,7 @@ use Prim.Native.Nat.{ℕ}
 use native.Mathlib.Omega.{arith}
 use Rattle.rows.specs.Rows.{boardOf}
 use Rattle.rows.specs.declared.Board.{Board}
-use Rattle.board.specs.WatchList.{Good, mayJoin, watchNames, fieldsOf, watchBoard, acceptedWith, asWatched}
+use Rattle.board.specs.WatchList.{Good, watchNames, fieldsOf, watchBoard, asWatched}
 use Rattle.board.specs.declared.list.Listed.the-variants.{Accepted}
 use Rattle.board.specs.declared.list.Watched.{Watched}
 use Rattle.board.proofs.EntryLaws.{list-good}
@@ -16,7 +16,7 @@ use Rattle.board.proofs.WatchLaws.{good-none, good-more, watch-more, accepted-j
 use Rattle.display.specs.Display as display
 use Rattle.display.specs.declared.Display.{Display}
 use Rattle.ledger.specs.Answers.{WatchList, as-bytes, one-by-one, namesIn}
-use Rattle.ledger.proofs.Chain.{Lists, Watches, Begins, from-bytes, no-names, one-more, slice}
+use Rattle.ledger.proofs.Chain.{Begins, from-bytes, no-names, one-more, slice}
 
 -- what a fresh start is, by the contracts of the functions that made it
 pub record Began (w : WatchList) (d : Display) : Type 0 where

@@ -14,10 +14,10 @@ use Rattle.ledger.specs.Answers as answers
 use Rattle.ledger.specs.Calls as calls
 use Rattle.ledger.specs.Answers.{Call, Given, Answer}
 use Rattle.ledger.specs.Calls.{effectOf, withRun, pieceStep, shortStep, step, given, after}
-use Rattle.ledger.specs.Shown.{Left, asLeft}
+use Rattle.ledger.specs.Shown.{asLeft}
 use Rattle.ledger.specs.History.{Event, byte, eventsOf, history}
 use Rattle.ledger.specs.ClosedFrames.{behindTurn, framesFrom}
-use Rattle.ledger.proofs.ByEvents.{toldBy, atTurn, happens, afterHistory, toldInHistory, history-append, told-append}
+use Rattle.ledger.proofs.ByEvents.{toldBy, atTurn, afterHistory, toldInHistory, history-append, told-append}
 
 -- the frames that a piece closed
 abbrev pub framesOf : Option (List ℕ) → List Frame

@@ -1,7 +1,7 @@
 -- DEMAND 1 of the display: a refusal leaves buffers, board and link state as they were; a bad frame is off the line and counted. A call with
 -- a short buffer asks nothing of the piece, and a frame that is refused hands nothing out.
 use mathlib.Core.Path.{_≡_, refl, sym, ap, _∙_}
-use mathlib.Core.Bool.{Bool, true, false, cond, _||_}
+use mathlib.Core.Bool.{Bool, true, false, cond}
 use mathlib.Core.List.{List, [], _∷_, map}
 use mathlib.Core.Option.{Option, some, none}
 use mathlib.Core.Logic.{_⊎_, inl, inr}
@@ -14,7 +14,6 @@ use Rattle.refusals.specs.Numbers.{shortOutput}
 use Rattle.slices.specs.Put.{putAt}
 use Rattle.rows.specs.Entries.{boardShowing}
 use Rattle.link.specs.Counts.{countOf}
-use Rattle.link.specs.Receiving as link
 use Rattle.link.specs.Receiving.{receiveOf, shortCall}
 use Rattle.link.specs.declared.counts.Event.the-variants as event
 use Rattle.link.proofs.ReceivingLaws.{short-reply, short-packet}
@@ -24,14 +23,14 @@ use Rattle.display.specs.declared.Display.{Display}
 use Rattle.display.specs.declared.Received.{Received}
 use Rattle.ledger.specs.Ledger.{Ledger, start, plusRefused}
 use Rattle.ledger.specs.Frames as frames
-use Rattle.ledger.specs.Frames.{Frame, Taken, taken, frameOf}
+use Rattle.ledger.specs.Frames.{Frame, taken, frameOf}
 use Rattle.ledger.specs.Answers.{WatchList, namesIn, Call, piece}
 use Rattle.ledger.specs.Calls as calls
-use Rattle.ledger.specs.Calls.{Effect, repeated, closed, effectOf, withRun, pieceStep, shortStep, step, after}
+use Rattle.ledger.specs.Calls.{Effect, repeated, closed, effectOf, withRun, pieceStep, step, after}
 use Rattle.ledger.specs.Shown.{asCounts, asEntry, asAnswer, Left, took, asLeft}
 use Rattle.ledger.proofs.CountAgreement.{count-refused}
 use Rattle.ledger.proofs.Chain.{Begins, Chain, done, receives, received}
-use Rattle.ledger.proofs.EveryList.{Agreed, chain-agrees, Agreeing, agreeing}
+use Rattle.ledger.proofs.EveryList.{chain-agrees, agreeing}
 use Rattle.ledger.proofs.SameHistory.{next-given}
 
 -- ---- a short buffer

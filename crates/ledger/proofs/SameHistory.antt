@@ -1,6 +1,6 @@
 -- DEMAND 3, cuts of the byte stream do not matter: what the calls took and the ticks settle the ledger, so lists of calls with the same
 -- history are alike in all that they told and handed out, in counts and board, and in what comes next.
-use mathlib.Core.Path.{_≡_, refl, sym, ap, _∙_}
+use mathlib.Core.Path.{_≡_, sym, ap, _∙_}
 use mathlib.Core.List.{List, [], _∷_, map}
 use mathlib.Core.Option.{some}
 use Prim.Native.Nat.{ℕ}
@@ -12,7 +12,7 @@ use Rattle.ledger.specs.Calls.{step, given, after}
 use Rattle.ledger.specs.Shown.{asCounts, asEntry, asAnswer, Left, asLeft}
 use Rattle.ledger.specs.History.{Event, history, allHanded, allTold}
 use Rattle.ledger.proofs.Chain.{Begins, Chain}
-use Rattle.ledger.proofs.EveryList.{Agreed, chain-agrees, Agreeing, agreeing}
+use Rattle.ledger.proofs.EveryList.{chain-agrees, Agreeing, agreeing}
 use Rattle.ledger.proofs.ByEvents.{afterHistory, toldInHistory}
 use Rattle.ledger.proofs.HistoryLaws.{after-history, toldOut, told-history}
 use Rattle.ledger.proofs.HandedLaws.{handedWith, all-handed, all-told}

@@ -1,14 +1,11 @@
 -- DEMAND 3, a frame repeated at once: the ledger's last sequence is that of the last data frame in the history, whatever came between, so a
 -- good data frame with it, not 0, is dropped, and every other one is new and read.
-use mathlib.Core.Path.{_≡_, refl, sym, ap, _∙_}
-use mathlib.Core.Bool.{Bool, true, false, cond, _||_}
+use mathlib.Core.Path.{_≡_, sym, ap, _∙_}
+use mathlib.Core.Bool.{true, false}
 use mathlib.Core.List.{List, [], _∷_, map, append-cancel-left}
 use mathlib.Core.Option.{Option, some, none}
 use Prim.Native.Nat.{ℕ, _-_}
-use native.Mathlib.Omega.{arith}
-use lib.Dec.{eqb, ltb}
 use lib.ListN.{length}
-use borrow.Author.Tests.{eq-eqb, ne-eqb}
 use Rattle.slices.specs.Put.{putAt}
 use Rattle.rows.specs.Entries.{boardShowing}
 use Rattle.board.specs.Reading.{readBoard}
@@ -17,11 +14,11 @@ use Rattle.display.specs.declared.Answer.the-variants.{Again, New}
 use Rattle.display.specs.declared.Display.{Display}
 use Rattle.ledger.specs.Ledger.{Ledger, start}
 use Rattle.ledger.specs.Frames as frames
-use Rattle.ledger.specs.Frames.{Taken, taken, frameOf}
+use Rattle.ledger.specs.Frames.{taken}
 use Rattle.ledger.specs.Answers as given
 use Rattle.ledger.specs.Answers.{WatchList, namesIn, Call, piece}
 use Rattle.ledger.specs.Calls as calls
-use Rattle.ledger.specs.Calls.{Effect, answerTo, repeated, closed, withRun, pieceStep, shortStep, step, after}
+use Rattle.ledger.specs.Calls.{Effect, answerTo, repeated, closed, withRun, step, after}
 use Rattle.ledger.specs.Shown.{asEntry, Left, took, asLeft}
 use Rattle.ledger.specs.History.{eventsOf, history}
 use Rattle.ledger.specs.ClosedFrames.{framesFrom, framesIn, Closes, lastSequence}
@@ -29,7 +26,7 @@ use Rattle.ledger.proofs.FrameAgreement.{read-shown, read-answered}
 use Rattle.ledger.proofs.Chain.{Begins, Chain}
 use Rattle.ledger.proofs.EveryList.{Agreed, chain-agrees, Agreeing, agreeing}
 use Rattle.ledger.proofs.ByEvents.{afterHistory, frames-append, history-sequence}
-use Rattle.ledger.proofs.HistoryLaws.{framesOf, piece-same}
+use Rattle.ledger.proofs.ClosedCalls.{ClosedBy, step-closes, repeats, zero-new, other-new}
 use Rattle.ledger.proofs.SameHistory.{next-given, after-by}
 
 -- a call that answered a data frame and dropped it: the packet buffer and the board are as they were
@@ -52,57 +49,6 @@ pub record AtOnce (last : Option ℕ) (sequence : ℕ) (payload reply packet : L
   pub repeated : last ≡ some sequence → (sequence ≡ 0 → ⊥) → Dropped sequence reply packet before more behind
   pub zero : sequence ≡ 0 → ReadAsNew sequence payload reply packet before more behind
   pub other : (last ≡ some sequence → ⊥) → ReadAsNew sequence payload reply packet before more behind
-
--- a step that closes a good data frame
-record ClosedBy (l : Ledger) (reply packet : List ℕ) (sequence : ℕ) (payload : List ℕ) (s : calls.Step) : Type 0 where
-  run : Option (List ℕ)
-  count : ℕ
-  gives :
-      s .given
-      ≡ given.took count (closed (withRun l run) (frames.good sequence payload) .answer)
-      (putAt reply 0 (closed (withRun l run) (frames.good sequence payload) .reply))
-      (putAt packet 0 (closed (withRun l run) (frames.good sequence payload) .packet))
-  leaves : s .ledger ≡ closed (withRun l run) (frames.good sequence payload) .ledger
-
-step-closes : (names : List (List ℕ)) (l : Ledger) (bytes reply packet : List ℕ) (sequence : ℕ) (payload : List ℕ)
-    → framesFrom (l .run) (eventsOf (piece bytes reply packet) (asLeft names (step l (piece bytes reply packet) .given))) ≡ frames.good sequence payload ∷ []
-    → ClosedBy l reply packet sequence payload (step l (piece bytes reply packet))
-unfolding step framesFrom
-step-closes names l bytes reply packet sequence payload = by-room (ltb (length reply) 9 || ltb (length packet) 383)
-  where
-    by-frame : (t : Taken) (frame : Option (List ℕ)) → t .frame ≡ frame → framesOf frame ≡ frames.good sequence payload ∷ []
-        → ClosedBy l reply packet sequence payload (pieceStep l t reply packet)
-    by-frame t none f e = let z : _≡_ {A = ℕ} 0 1 = cc in absurd (omega arith)
-    by-frame t (some run) f e =
-        let is : frameOf run ≡ frames.good sequence payload = cc in
-        record { run = t .run; count = t .count; gives = rw (f, is); leaves = rw (f, is) }
-
-    by-room : (t : Bool)
-        → framesFrom (l .run) (eventsOf (piece bytes reply packet) (asLeft names (cond t (shortStep l reply packet) (pieceStep l (taken (l .run) bytes 0) reply packet) .given)))
-        ≡ frames.good sequence payload ∷ []
-        → ClosedBy l reply packet sequence payload (cond t (shortStep l reply packet) (pieceStep l (taken (l .run) bytes 0) reply packet))
-    by-room true e = let z : _≡_ {A = ℕ} 0 1 = cc in absurd (omega arith)
-    by-room false e =
-        let t = taken (l .run) bytes 0 in
-        let all : t .count - 0 ≡ t .count = omega arith in
-        by-frame t (t .frame) refl (sym (rw all at (piece-same bytes l 0 .frames)) ∙ e)
-
--- what it does, by the last sequence
-repeats : (last : Option ℕ) (sequence : ℕ) → last ≡ some sequence → (sequence ≡ 0 → ⊥) → repeated last sequence ≡ true
-repeats none sequence e more = let z : _≡_ {A = ℕ} 0 1 = cc in absurd (omega arith)
-repeats (some before) sequence e more = let same : sequence ≡ before = cc in rw (ne-eqb sequence 0 more, eq-eqb sequence before same)
-
-zero-new : (last : Option ℕ) (sequence : ℕ) → sequence ≡ 0 → repeated last sequence ≡ false
-zero-new none sequence e = refl
-zero-new (some before) sequence e = rw e
-
-other-new : (last : Option ℕ) (sequence : ℕ) → (last ≡ some sequence → ⊥) → repeated last sequence ≡ false
-other-new none sequence other = refl
-other-new (some before) sequence other = rw (ne-eqb sequence before (λ e. other (ap some (sym e)))) (never (eqb sequence 0))
-  where
-    never : (t : Bool) → cond t false false ≡ false
-    never true = refl
-    never false = refl
 
 module _ (names : List (List ℕ)) (cs : List Call) (left : List Left) (end : Display) (a : Agreeing names cs left end)
     (bytes reply packet : List ℕ) (more : Left) (end₁ : Display) (next : Chain end (piece bytes reply packet ∷ []) (more ∷ []) end₁)

@@ -2,78 +2,31 @@
 -- ticks since.
 use mathlib.Core.Path.{_≡_, refl, sym, ap, _∙_}
 use mathlib.Core.Bool.{Bool, true, false, cond}
-use mathlib.Core.List.{List, [], _∷_, _++_, map}
+use mathlib.Core.List.{List, [], map}
 use mathlib.Core.Option.{some, none}
 use mathlib.Core.Logic.{_↔_, _⊎_, inl, inr}
-use Prim.Native.Nat.{ℕ, suc, _-_, _≤_, _<_}
+use Prim.Native.Nat.{ℕ, _-_, _≤_, _<_}
 use native.Mathlib.Omega.{arith}
 use lib.Dec.{ltb}
 use lib.IntN.{ℤ}
-use lib.ListN.{length, getD, replicate}
+use lib.ListN.{length, replicate}
 use borrow.Author.Tests.{lt-ltb, le-ltb, ltb-true, ltb-false}
-use Rattle.slices.specs.Same.{sameBytes}
-use Rattle.slices.proofs.SameLaws.{same-equal}
-use Rattle.rows.specs.Entries as shown
-use Rattle.rows.specs.Entries.{rowShowing, boardShowing}
-use Rattle.rows.specs.Names.{placeFrom, placeOf}
+use Rattle.rows.specs.Entries.{rowShowing}
+use Rattle.rows.specs.Names.{placeOf}
 use Rattle.rows.specs.Rows.{rowCount, rowName, freshRow}
 use Rattle.rows.specs.declared.Board.{Board}
 use Rattle.rows.specs.declared.Row.{Row}
 use Rattle.rows.specs.declared.State.the-variants.{Never, Current, Silent}
-use Rattle.board.proofs.WatchLaws.{Fits, fresh-name}
 use Rattle.display.specs.declared.Display.{Display}
-use Rattle.ledger.specs.Ledger.{Entry, unheard, start, rowOf, current, silent}
+use Rattle.ledger.specs.Ledger.{rowOf, current, silent}
 use Rattle.ledger.specs.Answers.{WatchList, namesIn, Call}
-use Rattle.ledger.specs.Shown.{asState, asEntry, Left}
+use Rattle.ledger.specs.Shown.{asState, Left}
 use Rattle.ledger.specs.LastAccepted.{allAccepted, LastAccepted, rowAt}
 use Rattle.ledger.proofs.Chain.{Begins, Chain}
-use Rattle.ledger.proofs.EveryList.{Agreeing, agreeing, fresh-named}
-use Rattle.ledger.proofs.UpdateLaws.{lastUpdate, afterCalls, after-followed}
+use Rattle.ledger.proofs.EveryList.{agreeing}
+use Rattle.ledger.proofs.UpdateLaws.{lastUpdate}
+use Rattle.ledger.proofs.NamedRows.{rowAfter, board-after, RowAt, row-at}
 use Rattle.ledger.proofs.LastAcceptedLaws.{last-is, Found, found, none-is}
-
--- ---- the row of a name
-
--- what the row of a name shows after some calls
-abbrev rowAfter : List (List ℕ) → List Left → List ℕ → shown.Entry
-rowAfter names left name = record { name = name; state = asState (rowOf (lastUpdate names name left none)) }
-
-rows-after : (all names : List (List ℕ)) (left : List Left) → map asEntry (map (afterCalls all left) (map unheard names)) ≡ map (rowAfter all left) names
-rows-after all [] left = refl
-rows-after all (n ∷ names) left = ap (λ (l : List shown.Entry). rowAfter all left n ∷ l) (rows-after all names left)
-
-board-after : (names : List (List ℕ)) (cs : List Call) (left : List Left) (end : Display) → Agreeing names cs left end
-    → end .board ≡ boardShowing (map (rowAfter names left) names)
-board-after names cs left end a =
-    let followed = after-followed names (start names) cs (fresh-named names) (a .good .once) in
-    a .all .agrees .shows .showing
-    ∙ ap (λ (es : List Entry). boardShowing (map asEntry es)) (rw (← a .all .gives) at followed)
-    ∙ ap boardShowing (rows-after names names left)
-
--- the row at the place of a name among the names, when they are counted from a on
-record RowAt (f : List ℕ → shown.Entry) (rest : List Row) (name : List ℕ) (names : List (List ℕ)) (a place : ℕ) : Type 0 where
-  behind : a ≤ place
-  row : getD (map rowShowing (map f names) ++ rest) (place - a) (freshRow []) ≡ rowShowing (f name)
-  named : rowName (freshRow name) ≡ name
-
-row-at : (f : List ℕ → shown.Entry) (rest : List Row) (name : List ℕ) (names : List (List ℕ)) (a place : ℕ) → placeFrom a name names ≡ some place
-    → Fits names → RowAt f rest name names a place
-unfolding placeFrom
-row-at f rest name [] a place e fit = let z : _≡_ {A = ℕ} 0 1 = cc in absurd (omega arith)
-row-at f rest name (other ∷ names) a place e fit = cases (sameBytes other name) refl (λ later. row-at f rest name names (suc a) place later (fit .1)) e
-  where
-    cases : (t : Bool) → sameBytes other name ≡ t → (placeFrom (suc a) name names ≡ some place → RowAt f rest name names (suc a) place)
-        → cond t (some a) (placeFrom (suc a) name names) ≡ some place → RowAt f rest name (other ∷ names) a place
-    cases true h below e =
-        let here : a ≡ place = cc in
-        let first : place - a ≡ 0 = omega arith in
-        let same = same-equal other name h in
-        record { behind = omega arith; row = rw (first, same); named = rw same at (fresh-name other (fit .0)) }
-    cases false h below e =
-        let there = below e in
-        let next : place - a ≡ suc (place - suc a) = omega (arith, there .behind) in
-        record { behind = omega (arith, there .behind); row = rw next (there .row); named = there .named }
-
--- ---- what it shows, by the last accepted update
 
 shown-as : (t : Bool) (value : ℤ) (age : ℕ) → asState (cond t (current value age) silent) ≡ cond t (Current value age) Silent
 shown-as true value age = refl

@@ -1,16 +1,14 @@
 -- What a call handed out stands at the start of the buffers, as long as the answer says: an acknowledgement has at most the nine bytes
--- that a reply buffer has, and a payload at most the 383 of a packet buffer. So all that a list of calls handed out, and all that it
--- told, is settled by what the ledger tells.
-use mathlib.Core.Path.{_≡_, refl, sym, ap, ap₂, _∙_}
+-- that a reply buffer has, and a payload at most the 383 of a packet buffer.
+use mathlib.Core.Path.{_≡_, refl, ap, ap₂}
 use mathlib.Core.Bool.{Bool, true, false, cond, _||_}
-use mathlib.Core.List.{List, [], _∷_, _++_, map, map-append, append-assoc}
+use mathlib.Core.List.{List, [], _∷_}
 use mathlib.Core.Option.{Option, some, none}
 use Prim.Native.Nat.{ℕ, _≤_}
 use native.Mathlib.Omega.{arith}
 use lib.Dec.{eqb, ltb}
 use lib.ListN.{length, take}
 use borrow.Author.Tests.{ltb-false}
-use Rattle.refusals.specs.Numbers.{shortOutput}
 use Rattle.slices.specs.Put.{putAt}
 use Rattle.slices.proofs.PutLaws.{put-first}
 use Rattle.frame.specs.Content as content
@@ -18,8 +16,6 @@ use Rattle.frame.specs.Reading.{readRun}
 use Rattle.frame.proofs.FrameTheorems.{run-bounded}
 use Rattle.link.specs.Closing.{acknowledgement}
 use Rattle.link.proofs.ClosingLaws.{acknowledgement-fits}
-use Rattle.display.specs.declared.Answer as display-answer
-use Rattle.display.specs.declared.Answer.the-variants.{Refused}
 use Rattle.ledger.specs.Ledger.{Ledger}
 use Rattle.ledger.specs.Frames as frames
 use Rattle.ledger.specs.Frames.{Frame, taken, byType, frameOf}
@@ -28,9 +24,7 @@ use Rattle.ledger.specs.Answers.{Call, Given, Answer}
 use Rattle.ledger.specs.Calls as calls
 use Rattle.ledger.specs.Calls.{Effect, answerTo, repeated, closed, effectOf, withRun, pieceStep, shortStep, step, given}
 use Rattle.ledger.specs.Shown.{asAnswer, asLeft}
-use Rattle.ledger.specs.History.{Handed, handedAs, handedLeft, allHanded, toldAs, toldLeft, allTold}
-use Rattle.ledger.proofs.ByEvents.{toldBy}
-use Rattle.ledger.proofs.HistoryLaws.{toldIn, toldOut}
+use Rattle.ledger.specs.History.{Handed, handedAs, handedLeft}
 
 -- what the ledger hands out with an answer
 abbrev pub handedBy : Answer → List Handed
@@ -101,61 +95,3 @@ step-handed names l (answers.piece bytes reply packet) = by-room (ltb (length re
         let t = taken (l .run) bytes 0 in
         effect-handed names (withRun l (t .run)) reply packet (ltb-false (length reply) 9 e) (ltb-false (length packet) 383 f) (t .frame)
 step-handed names l answers.tick = refl
-
--- with all that is told it is settled what is handed out
-unfoldable pub handedWith : List Answer → List Handed
-handedWith [] = []
-handedWith (a ∷ more) = handedBy a ++ handedWith more
-
-handed-append : (xs ys : List Answer) → handedWith (xs ++ ys) ≡ handedWith xs ++ handedWith ys
-unfolding handedWith
-handed-append [] ys = refl
-handed-append (x ∷ xs) ys = ap (λ (r : List Handed). handedBy x ++ r) (handed-append xs ys) ∙ sym (append-assoc (handedBy x) (handedWith xs) (handedWith ys))
-
-told-handed : (a : Answer) → handedBy a ≡ handedWith (toldBy a)
-unfolding handedWith
-told-handed answers.nothing = refl
-told-handed (answers.refused n) = by-number (eqb n shortOutput)
-  where
-    by-number : (t : Bool) → [] ≡ handedWith (cond t [] (answers.refused n ∷ []))
-    by-number true = refl
-    by-number false = refl
-told-handed (answers.heard sequence) = refl
-told-handed (answers.again sequence) = refl
-told-handed (answers.new sequence payload verdict) = refl
-
-given-handed : (g : Given) → handedIn g ≡ handedWith (toldIn g)
-unfolding handedWith
-given-handed (answers.took n answer reply packet) = told-handed answer
-given-handed answers.ticked = refl
-
-module _ (names : List (List ℕ)) where
-  pub all-handed : (l : Ledger) (cs : List Call) → allHanded (map (asLeft names) (given l cs)) ≡ handedWith (toldOut names l cs)
-  unfolding allHanded given toldOut handedWith
-  all-handed l [] = refl
-  all-handed l (c ∷ cs) =
-      ap₂ (λ (x y : List Handed). x ++ y) (step-handed names l c ∙ given-handed (step l c .given)) (all-handed (step l c .ledger) cs)
-      ∙ sym (handed-append (toldIn (step l c .given)) (toldOut names (step l c .ledger) cs))
-
-  -- what the software tells of an answer
-  answer-told : (a : Answer) → toldAs (asAnswer names a) ≡ map (asAnswer names) (toldBy a)
-  answer-told answers.nothing = refl
-  answer-told (answers.refused n) = by-number (eqb n shortOutput)
-    where
-      by-number : (t : Bool) → cond t [] (Refused n ∷ []) ≡ map (asAnswer names) (cond t [] (answers.refused n ∷ []))
-      by-number true = refl
-      by-number false = refl
-  answer-told (answers.heard sequence) = refl
-  answer-told (answers.again sequence) = refl
-  answer-told (answers.new sequence payload verdict) = refl
-
-  given-told : (g : Given) → toldLeft (asLeft names g) ≡ map (asAnswer names) (toldIn g)
-  given-told (answers.took n answer reply packet) = answer-told answer
-  given-told answers.ticked = refl
-
-  pub all-told : (l : Ledger) (cs : List Call) → allTold (map (asLeft names) (given l cs)) ≡ map (asAnswer names) (toldOut names l cs)
-  unfolding allTold given toldOut
-  all-told l [] = refl
-  all-told l (c ∷ cs) =
-      ap₂ (λ (x y : List display-answer.Answer). x ++ y) (given-told (step l c .given)) (all-told (step l c .ledger) cs)
-      ∙ sym (map-append (asAnswer names) (toldIn (step l c .given)) (toldOut names (step l c .ledger) cs))

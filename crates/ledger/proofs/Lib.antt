@@ -9,9 +9,12 @@ pub mod EveryList
 pub mod ByEvents
 pub mod HistoryLaws
 pub mod HandedLaws
+pub mod ToldLaws
 pub mod SameHistory
+pub mod ClosedCalls
 pub mod AtOnce
 pub mod UpdateLaws
 pub mod LastAcceptedLaws
+pub mod NamedRows
 pub mod CurrentWhen
 pub mod RefusedCalls

@@ -15,7 +15,7 @@ use Rattle.ledger.proofs.Chain.{Begins, Chain}
 use Rattle.ledger.proofs.EveryList.{chain-agrees, Agreeing, agreeing}
 use Rattle.ledger.proofs.ByEvents.{afterHistory, toldInHistory}
 use Rattle.ledger.proofs.HistoryLaws.{after-history, toldOut, told-history}
-use Rattle.ledger.proofs.HandedLaws.{handedWith, all-handed, all-told}
+use Rattle.ledger.proofs.ToldLaws.{handedWith, all-handed, all-told}
 
 -- two displays after a list of calls each: what the calls left, and what one more call leaves
 pub record Alike (left left₁ : List Left) (end end₁ : Display) : Type 0 where

@@ -1,0 +1,73 @@
+-- A call that closes a good data frame: what its step is, and by the last sequence whether the frame is repeated at once.
+use mathlib.Core.Path.{_≡_, refl, sym, ap, _∙_}
+use mathlib.Core.Bool.{Bool, true, false, cond, _||_}
+use mathlib.Core.List.{List, [], _∷_}
+use mathlib.Core.Option.{Option, some, none}
+use Prim.Native.Nat.{ℕ, _-_}
+use native.Mathlib.Omega.{arith}
+use lib.Dec.{eqb, ltb}
+use lib.ListN.{length}
+use borrow.Author.Tests.{eq-eqb, ne-eqb}
+use Rattle.slices.specs.Put.{putAt}
+use Rattle.ledger.specs.Ledger.{Ledger}
+use Rattle.ledger.specs.Frames as frames
+use Rattle.ledger.specs.Frames.{Taken, taken, frameOf}
+use Rattle.ledger.specs.Answers as given
+use Rattle.ledger.specs.Answers.{piece}
+use Rattle.ledger.specs.Calls as calls
+use Rattle.ledger.specs.Calls.{repeated, closed, withRun, pieceStep, shortStep, step}
+use Rattle.ledger.specs.Shown.{took, asLeft}
+use Rattle.ledger.specs.History.{eventsOf}
+use Rattle.ledger.specs.ClosedFrames.{framesFrom}
+use Rattle.ledger.proofs.HistoryLaws.{framesOf, piece-same}
+
+-- a step that closes a good data frame
+pub record ClosedBy (l : Ledger) (reply packet : List ℕ) (sequence : ℕ) (payload : List ℕ) (s : calls.Step) : Type 0 where
+  pub run : Option (List ℕ)
+  pub count : ℕ
+  pub gives :
+      s .given
+      ≡ given.took count (closed (withRun l run) (frames.good sequence payload) .answer)
+      (putAt reply 0 (closed (withRun l run) (frames.good sequence payload) .reply))
+      (putAt packet 0 (closed (withRun l run) (frames.good sequence payload) .packet))
+  pub leaves : s .ledger ≡ closed (withRun l run) (frames.good sequence payload) .ledger
+
+pub step-closes : (names : List (List ℕ)) (l : Ledger) (bytes reply packet : List ℕ) (sequence : ℕ) (payload : List ℕ)
+    → framesFrom (l .run) (eventsOf (piece bytes reply packet) (asLeft names (step l (piece bytes reply packet) .given))) ≡ frames.good sequence payload ∷ []
+    → ClosedBy l reply packet sequence payload (step l (piece bytes reply packet))
+unfolding step framesFrom
+step-closes names l bytes reply packet sequence payload = by-room (ltb (length reply) 9 || ltb (length packet) 383)
+  where
+    by-frame : (t : Taken) (frame : Option (List ℕ)) → t .frame ≡ frame → framesOf frame ≡ frames.good sequence payload ∷ []
+        → ClosedBy l reply packet sequence payload (pieceStep l t reply packet)
+    by-frame t none f e = let z : _≡_ {A = ℕ} 0 1 = cc in absurd (omega arith)
+    by-frame t (some run) f e =
+        let is : frameOf run ≡ frames.good sequence payload = cc in
+        record { run = t .run; count = t .count; gives = rw (f, is); leaves = rw (f, is) }
+
+    by-room : (t : Bool)
+        → framesFrom (l .run) (eventsOf (piece bytes reply packet) (asLeft names (cond t (shortStep l reply packet) (pieceStep l (taken (l .run) bytes 0) reply packet) .given)))
+        ≡ frames.good sequence payload ∷ []
+        → ClosedBy l reply packet sequence payload (cond t (shortStep l reply packet) (pieceStep l (taken (l .run) bytes 0) reply packet))
+    by-room true e = let z : _≡_ {A = ℕ} 0 1 = cc in absurd (omega arith)
+    by-room false e =
+        let t = taken (l .run) bytes 0 in
+        let all : t .count - 0 ≡ t .count = omega arith in
+        by-frame t (t .frame) refl (sym (rw all at (piece-same bytes l 0 .frames)) ∙ e)
+
+-- what it does, by the last sequence
+pub repeats : (last : Option ℕ) (sequence : ℕ) → last ≡ some sequence → (sequence ≡ 0 → ⊥) → repeated last sequence ≡ true
+repeats none sequence e more = let z : _≡_ {A = ℕ} 0 1 = cc in absurd (omega arith)
+repeats (some before) sequence e more = let same : sequence ≡ before = cc in rw (ne-eqb sequence 0 more, eq-eqb sequence before same)
+
+pub zero-new : (last : Option ℕ) (sequence : ℕ) → sequence ≡ 0 → repeated last sequence ≡ false
+zero-new none sequence e = refl
+zero-new (some before) sequence e = rw e
+
+pub other-new : (last : Option ℕ) (sequence : ℕ) → (last ≡ some sequence → ⊥) → repeated last sequence ≡ false
+other-new none sequence other = refl
+other-new (some before) sequence other = rw (ne-eqb sequence before (λ e. other (ap some (sym e)))) (never (eqb sequence 0))
+  where
+    never : (t : Bool) → cond t false false ≡ false
+    never true = refl
+    never false = refl

@@ -1,0 +1,76 @@
+-- All that a list of calls told, and all that it handed out, is settled by what the ledger tells: call by call.
+use mathlib.Core.Path.{_≡_, refl, sym, ap, ap₂, _∙_}
+use mathlib.Core.Bool.{Bool, true, false, cond}
+use mathlib.Core.List.{List, [], _∷_, _++_, map, map-append, append-assoc}
+use Prim.Native.Nat.{ℕ}
+use lib.Dec.{eqb}
+use Rattle.refusals.specs.Numbers.{shortOutput}
+use Rattle.display.specs.declared.Answer as display-answer
+use Rattle.display.specs.declared.Answer.the-variants.{Refused}
+use Rattle.ledger.specs.Ledger.{Ledger}
+use Rattle.ledger.specs.Answers as answers
+use Rattle.ledger.specs.Answers.{Call, Given, Answer}
+use Rattle.ledger.specs.Calls.{step, given}
+use Rattle.ledger.specs.Shown.{asAnswer, asLeft}
+use Rattle.ledger.specs.History.{Handed, allHanded, toldAs, toldLeft, allTold}
+use Rattle.ledger.proofs.ByEvents.{toldBy}
+use Rattle.ledger.proofs.HistoryLaws.{toldIn, toldOut}
+use Rattle.ledger.proofs.HandedLaws.{handedBy, handedIn, step-handed}
+
+-- with all that is told it is settled what is handed out
+unfoldable pub handedWith : List Answer → List Handed
+handedWith [] = []
+handedWith (a ∷ more) = handedBy a ++ handedWith more
+
+handed-append : (xs ys : List Answer) → handedWith (xs ++ ys) ≡ handedWith xs ++ handedWith ys
+unfolding handedWith
+handed-append [] ys = refl
+handed-append (x ∷ xs) ys = ap (λ (r : List Handed). handedBy x ++ r) (handed-append xs ys) ∙ sym (append-assoc (handedBy x) (handedWith xs) (handedWith ys))
+
+told-handed : (a : Answer) → handedBy a ≡ handedWith (toldBy a)
+unfolding handedWith
+told-handed answers.nothing = refl
+told-handed (answers.refused n) = by-number (eqb n shortOutput)
+  where
+    by-number : (t : Bool) → [] ≡ handedWith (cond t [] (answers.refused n ∷ []))
+    by-number true = refl
+    by-number false = refl
+told-handed (answers.heard sequence) = refl
+told-handed (answers.again sequence) = refl
+told-handed (answers.new sequence payload verdict) = refl
+
+given-handed : (g : Given) → handedIn g ≡ handedWith (toldIn g)
+unfolding handedWith
+given-handed (answers.took n answer reply packet) = told-handed answer
+given-handed answers.ticked = refl
+
+module _ (names : List (List ℕ)) where
+  pub all-handed : (l : Ledger) (cs : List Call) → allHanded (map (asLeft names) (given l cs)) ≡ handedWith (toldOut names l cs)
+  unfolding allHanded given toldOut handedWith
+  all-handed l [] = refl
+  all-handed l (c ∷ cs) =
+      ap₂ (λ (x y : List Handed). x ++ y) (step-handed names l c ∙ given-handed (step l c .given)) (all-handed (step l c .ledger) cs)
+      ∙ sym (handed-append (toldIn (step l c .given)) (toldOut names (step l c .ledger) cs))
+
+  -- what the software tells of an answer
+  answer-told : (a : Answer) → toldAs (asAnswer names a) ≡ map (asAnswer names) (toldBy a)
+  answer-told answers.nothing = refl
+  answer-told (answers.refused n) = by-number (eqb n shortOutput)
+    where
+      by-number : (t : Bool) → cond t [] (Refused n ∷ []) ≡ map (asAnswer names) (cond t [] (answers.refused n ∷ []))
+      by-number true = refl
+      by-number false = refl
+  answer-told (answers.heard sequence) = refl
+  answer-told (answers.again sequence) = refl
+  answer-told (answers.new sequence payload verdict) = refl
+
+  given-told : (g : Given) → toldLeft (asLeft names g) ≡ map (asAnswer names) (toldIn g)
+  given-told (answers.took n answer reply packet) = answer-told answer
+  given-told answers.ticked = refl
+
+  pub all-told : (l : Ledger) (cs : List Call) → allTold (map (asLeft names) (given l cs)) ≡ map (asAnswer names) (toldOut names l cs)
+  unfolding allTold given toldOut
+  all-told l [] = refl
+  all-told l (c ∷ cs) =
+      ap₂ (λ (x y : List display-answer.Answer). x ++ y) (given-told (step l c .given)) (all-told (step l c .ledger) cs)
+      ∙ sym (map-append (asAnswer names) (toldIn (step l c .given)) (toldOut names (step l c .ledger) cs))

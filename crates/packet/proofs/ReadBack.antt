@@ -4,13 +4,14 @@ use mathlib.Core.Path.{_≡_, refl, ap, _∙_}
 use mathlib.Core.Bool.{Bool, true, false, cond}
 use mathlib.Core.List.{List, [], _∷_, _++_}
 use mathlib.Core.Option.{some}
-use Prim.Native.Nat.{ℕ, _+_, _*_, _/_, _%_, _≤_}
+use Prim.Native.Nat.{ℕ, _+_, _*_, _≤_}
 use native.Mathlib.Omega.{arith}
 use lib.Dec.{leb}
-use lib.ListN.{length, take, length-append}
+use lib.ListN.{length, take, getD, length-append}
 use lib.Seq.{take-append-seam, drop-append-seam}
 use borrow.Author.Tests.{le-leb, leb-true}
 use Rattle.refusals.specs.Numbers.{badName, badFragment}
+use Rattle.slices.specs.Pair.{pairOf}
 use Rattle.slices.specs.Put.{putAt}
 use Rattle.slices.proofs.PutLaws.{put-told}
 use Rattle.packet.specs.Items.{Item, inFront, emptyIfEof, eofsEmpty, ifEofsEmpty, itemsFilling, itemsOf, itemBytes, itemsBytes}
@@ -41,7 +42,7 @@ items-back (item ∷ items) =
 pub packet-back : (p : Packet) → eofsEmpty (p .items) ≡ true → packetOf (packetBytes p) ≡ packet p
 unfolding packetOf packetBytes isData itemsOf ifEofsEmpty withItems
 packet-back p empty =
-    let id : p .id / 256 * 256 + p .id % 256 ≡ p .id = omega arith in
+    let id : pairOf (getD (packetBytes p) 2 0) (getD (packetBytes p) 3 0) ≡ p .id = omega arith in
     let long : leb 4 (length (packetBytes p)) ≡ true = le-leb 4 (length (packetBytes p)) (omega arith) in
     let head : isData (packetBytes p) ≡ true = rw long in
     rw (head, id, items-back (p .items), empty)

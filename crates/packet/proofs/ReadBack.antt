@@ -47,7 +47,8 @@ packet-back p empty =
     let head : isData (packetBytes p) ≡ true = rw long in
     rw (head, id, items-back (p .items), empty)
 
--- what bytes are read as: by the packet and item rules the packet, by a call of `read_packet` its opcode and id
+-- what bytes are read as: by the packet and item rules the packet, with the items that the contracts of `count_all`, `count`, `find`, `value`
+-- and `behind` cite; by a call of `read_packet` its opcode and id
 pub record ReadAs (p : Packet) (bytes : List ℕ) : Type 0 where
   pub by-the-rules : packetOf bytes ≡ packet p
   pub items-are : packetItems bytes ≡ p .items

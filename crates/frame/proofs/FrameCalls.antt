@@ -32,7 +32,9 @@ pub record Writes (kind sequence : ℕ) (payload before : List ℕ) (answer : Wr
   pub output-lent : Lent before
   pub output-left : Lent after
   pub asked : write-frame.Asked lifetimes (kind, (sequence, (payload-lent .slice, (output-lent .slice, tt))))
-  pub learnt : write-frame.Learnt lifetimes (kind, (sequence, (payload-lent .slice, (output-lent .slice, tt)))) answer (kind, (sequence, (payload-lent .slice, (output-left .slice, tt))))
+  pub learnt :
+      write-frame.Learnt lifetimes (kind, (sequence, (payload-lent .slice, (output-lent .slice, tt)))) answer
+      (kind, (sequence, (payload-lent .slice, (output-left .slice, tt))))
 
 -- a call of `read_frame`
 pub record Reads (bytes before : List ℕ) (answer : FrameRead) (after : List ℕ) : Type 0 where

@@ -104,22 +104,30 @@ frame-read-back room kind sequence payload asked short =
     ∙ run-content (stuff c) c unstuffed
     ∙ content-judged kind sequence payload
 
--- a frame was written only of a payload of at most 383 bytes, and it is the frame of the three
-record Wrote (kind sequence : ℕ) (payload sent : List ℕ) : Type 0 where
-  short : length payload ≤ payloadMax
-  is : sent ≡ frameOf kind sequence payload
+-- a frame was written only of a payload of at most 383 bytes and into room enough, and it is the frame of the three
+pub record Wrote (room kind sequence : ℕ) (payload sent : List ℕ) : Type 0 where
+  pub short : length payload ≤ payloadMax
+  pub fits : length sent ≤ room
+  pub is : sent ≡ frameOf kind sequence payload
 
-wrote : (room kind sequence : ℕ) (payload sent : List ℕ) → writeFrame room kind sequence payload ≡ written sent → Wrote kind sequence payload sent
+pub wrote : (room kind sequence : ℕ) (payload sent : List ℕ) → writeFrame room kind sequence payload ≡ written sent
+    → Wrote room kind sequence payload sent
 unfolding writeFrame writeContent
 wrote room kind sequence payload sent e =
-    cases (ltb payloadMax (length payload)) (ltb room (length (frameOf kind sequence payload))) refl e
+    cases (ltb payloadMax (length payload)) (ltb room (length (frameOf kind sequence payload))) refl refl e
   where
-    cases : (t u : Bool) → ltb payloadMax (length payload) ≡ t
+    cases : (t u : Bool) → ltb payloadMax (length payload) ≡ t → ltb room (length (frameOf kind sequence payload)) ≡ u
         → cond t (refused longPayload) (cond u (refused shortOutput) (written (frameOf kind sequence payload))) ≡ written sent
-        → Wrote kind sequence payload sent
-    cases true u f e = let z : _≡_ {A = ℕ} 0 1 = cc in absurd (omega arith)
-    cases false true f e = let z : _≡_ {A = ℕ} 0 1 = cc in absurd (omega arith)
-    cases false false f e = record { short = ltb-false payloadMax (length payload) f; is = let same : sent ≡ frameOf kind sequence payload = cc in same }
+        → Wrote room kind sequence payload sent
+    cases true u f g e = let z : _≡_ {A = ℕ} 0 1 = cc in absurd (omega arith)
+    cases false true f g e = let z : _≡_ {A = ℕ} 0 1 = cc in absurd (omega arith)
+    cases false false f g e =
+        let same : sent ≡ frameOf kind sequence payload = cc in
+        record {
+          short = ltb-false payloadMax (length payload) f;
+          fits = rw same (ltb-false room (length (frameOf kind sequence payload)) g);
+          is = same;
+        }
 
 -- THEOREM. Whatever the writer wrote is read back as its type, sequence and payload.
 pub written-read-back : (room kind sequence : ℕ) (payload sent : List ℕ) (room₁ : ℕ) → writeFrame room kind sequence payload ≡ written sent

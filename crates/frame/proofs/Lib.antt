@@ -6,4 +6,5 @@ pub mod ReadLaws
 pub mod WriteLaws
 pub mod StuffTheorems
 pub mod FrameTheorems
+pub mod FrameCalls
 pub mod FlagLaws

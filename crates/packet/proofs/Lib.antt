@@ -3,6 +3,7 @@ pub mod ItemLaws
 pub mod NameLaws
 pub mod PacketLaws
 pub mod PickLaws
+pub mod RequestCalls
 pub mod ReadBack
 pub mod WalkLaws
 pub mod WriteLaws

@@ -1,25 +1,33 @@
--- 01, Items and packets: each request, read by the packet and item rules, gives back its opcode, id and items. What is sent of
--- any items is read as those items, and what is sent of any packet as that packet.
+-- 01, Items and packets: what a call of a request writer wrote, read by the packet and item rules, gives back its opcode, id and items,
+-- since what is sent of any items is read as those items, and what is sent of any packet as that packet.
 use mathlib.Core.Path.{_≡_, refl, ap, _∙_}
 use mathlib.Core.Bool.{Bool, true, false, cond}
 use mathlib.Core.List.{List, [], _∷_, _++_}
 use mathlib.Core.Option.{some}
-use Prim.Native.Nat.{ℕ, _+_, _*_, _/_, _%_, _≤_}
+use Prim.Native.Nat.{ℕ, _+_, _*_, _≤_}
 use native.Mathlib.Omega.{arith}
 use lib.Dec.{leb}
-use lib.ListN.{length, take, length-append}
+use lib.ListN.{length, take, getD, length-append}
 use lib.Seq.{take-append-seam, drop-append-seam}
 use borrow.Author.Tests.{le-leb, leb-true}
+use Rattle.refusals.specs.Numbers.{badName, badFragment}
+use Rattle.slices.specs.Pair.{pairOf}
 use Rattle.slices.specs.Put.{putAt}
-use Rattle.slices.proofs.PutLaws.{put-first}
+use Rattle.slices.proofs.PutLaws.{put-told}
 use Rattle.packet.specs.Items.{Item, inFront, emptyIfEof, eofsEmpty, ifEofsEmpty, itemsFilling, itemsOf, itemBytes, itemsBytes}
-use Rattle.packet.specs.Packet.{Packet, packet, isData, withItems, packetOf, packetBytes}
+use Rattle.packet.specs.Packet.{Packet, packet, isData, withItems, packetOf, judgedItems, packetItems, packetBytes}
 use Rattle.packet.specs.Names.{validName, validLocation}
-use Rattle.packet.specs.Requests.{refusedBy, fitted, answerOf, bytesOf, Writes, nameItem, locationItem, offsetItem, offsetItems, getPacket, filePacket, fetchedPacket, stopPacket, propertyGet, fileRequest, fetchedRequest, stopRequest}
+use Rattle.packet.specs.Answers.{readingOf}
+use Rattle.packet.specs.Requests.{wrote, refusedBy, fitted, answerOf, bytesOf, Writes, nameItem, locationItem, offsetItem, offsetItems, getPacket, filePacket, fetchedPacket, stopPacket, propertyGet, fileRequest, fetchedRequest, stopRequest}
 use Rattle.packet.specs.declared.requests.Offset.{Offset}
 use Rattle.packet.specs.declared.requests.Offset.the-variants.{Given, Omitted}
+use Rattle.packet.specs.declared.requests.Written.{Written}
 use Rattle.packet.specs.declared.requests.Written.the-variants.{Length}
+use Rattle.packet.specs.declared.reading.Reading.{Reading}
+use Rattle.packet.specs.declared.reading.Reading.the-variants as reading
 use Rattle.packet.proofs.ItemLaws.{items-end, items-rule}
+use Rattle.packet.proofs.WriteLaws.{get-fits, file-fits, fetched-fits, stop-fits}
+use Rattle.packet.proofs.RequestCalls.{ReadPacketCall, PropertyGetCall, FileRequestCall, FetchedCall, StopCall, packet-was-read, get-was-written, file-was-written, fetched-was-written, stop-was-written}
 
 -- items as they are sent are filled by those items
 pub items-back : (items : List Item) → itemsFilling (itemsBytes items) ≡ some items
@@ -34,48 +42,84 @@ items-back (item ∷ items) =
 pub packet-back : (p : Packet) → eofsEmpty (p .items) ≡ true → packetOf (packetBytes p) ≡ packet p
 unfolding packetOf packetBytes isData itemsOf ifEofsEmpty withItems
 packet-back p empty =
-    let id : p .id / 256 * 256 + p .id % 256 ≡ p .id = omega arith in
+    let id : pairOf (getD (packetBytes p) 2 0) (getD (packetBytes p) 3 0) ≡ p .id = omega arith in
     let long : leb 4 (length (packetBytes p)) ≡ true = le-leb 4 (length (packetBytes p)) (omega arith) in
     let head : isData (packetBytes p) ≡ true = rw long in
     rw (head, id, items-back (p .items), empty)
+
+-- what bytes are read as: by the packet and item rules the packet, with the items that the contracts of `count_all`, `count`, `find`, `value`
+-- and `behind` cite; by a call of `read_packet` its opcode and id
+pub record ReadAs (p : Packet) (bytes : List ℕ) : Type 0 where
+  pub by-the-rules : packetOf bytes ≡ packet p
+  pub items-are : packetItems bytes ≡ p .items
+  pub by-a-call : (answer : Reading) → ReadPacketCall bytes answer → answer ≡ reading.Packet (p .opcode) (p .id)
+
+read-as : (p : Packet) (bytes : List ℕ) → packetOf bytes ≡ packet p → ReadAs p bytes
+unfolding packetItems judgedItems readingOf
+read-as p bytes e =
+    record { by-the-rules = e; items-are = ap judgedItems e; by-a-call = λ answer c. packet-was-read c ∙ ap readingOf e }
 
 -- the bytes that a writer put, read as a packet, whatever else the output holds
 written-back :
     (p : Packet) (t : Bool) (number : ℕ) (out after : List ℕ) (n : ℕ)
     → eofsEmpty (p .items) ≡ true
     → Writes (cond t (fitted (length out) (packetBytes p)) (refusedBy number)) out after (Length n)
-    → packetOf (take n after) ≡ packet p
+    → ReadAs p (take n after)
 unfolding fitted answerOf bytesOf
 written-back p false number out after n empty w = let a = w .answered in let z : _≡_ {A = ℕ} 0 1 = cc in absurd (omega arith)
 written-back p true number out after n empty w = cases (leb (length (packetBytes p)) (length out)) refl
   where
-    cases : (fits : Bool) → leb (length (packetBytes p)) (length out) ≡ fits → packetOf (take n after) ≡ packet p
+    cases : (fits : Bool) → leb (length (packetBytes p)) (length out) ≡ fits → ReadAs p (take n after)
     cases false e = let a = rw e at (w .answered) in let z : _≡_ {A = ℕ} 0 1 = cc in absurd (omega arith)
     cases true e =
         let a : Length n ≡ Length (length (packetBytes p)) = rw e at (w .answered) in
         let size : n ≡ length (packetBytes p) = cc in
         let put : after ≡ putAt out 0 (packetBytes p) = rw e at (w .bytes) in
-        let first : take n after ≡ packetBytes p = rw (size, put) (put-first out (packetBytes p) (leb-true (length (packetBytes p)) (length out) e)) in
-        ap packetOf first ∙ packet-back p empty
+        let fits = leb-true (length (packetBytes p)) (length out) e in
+        let first : take n after ≡ packetBytes p = put-told out after (packetBytes p) n put size fits in
+        read-as p (take n after) (ap packetOf first ∙ packet-back p empty)
 
--- 01, Items and packets: the four requests. If the writer did not refuse, the bytes whose number it answered are its packet.
-module _ (id : ℕ) (out after : List ℕ) (n : ℕ) where
-  pub property-get-back : (name : List ℕ) → Writes (propertyGet id name (length out)) out after (Length n) → packetOf (take n after) ≡ packet (getPacket id name)
+-- THEOREMS. 01, Items and packets, the four requests: behind a call of the writer that answered n, the first n bytes of its output are read
+-- as its packet.
+module _ (id : ℕ) (before : List ℕ) (n : ℕ) (after : List ℕ) where
+  pub property-get-back : (name : List ℕ) → PropertyGetCall id name before (Length n) after → ReadAs (getPacket id name) (take n after)
   unfolding propertyGet getPacket nameItem eofsEmpty emptyIfEof
-  property-get-back name w = written-back (getPacket id name) (validName name) 12 out after n refl w
+  property-get-back name c = written-back (getPacket id name) (validName name) badName before after n refl (get-was-written c)
 
-  pub file-request-back : (location : List ℕ) (offset : Offset) → Writes (fileRequest id location offset (length out)) out after (Length n) → packetOf (take n after) ≡ packet (filePacket id location offset)
+  pub file-request-back : (location : List ℕ) (offset : Offset) → FileRequestCall id location offset before (Length n) after
+      → ReadAs (filePacket id location offset) (take n after)
   unfolding fileRequest filePacket locationItem offsetItem offsetItems eofsEmpty emptyIfEof
-  file-request-back location (Given place) w = written-back (filePacket id location (Given place)) (validLocation location) 20 out after n refl w
-  file-request-back location Omitted w = written-back (filePacket id location Omitted) (validLocation location) 20 out after n refl w
+  file-request-back location (Given place) c =
+      written-back (filePacket id location (Given place)) (validLocation location) badFragment before after n refl (file-was-written c)
+  file-request-back location Omitted c =
+      written-back (filePacket id location Omitted) (validLocation location) badFragment before after n refl (file-was-written c)
 
-  pub fetched-back : (location : List ℕ) → Writes (fetchedRequest id location (length out)) out after (Length n) → packetOf (take n after) ≡ packet (fetchedPacket id location)
+  pub fetched-back : (location : List ℕ) → FetchedCall id location before (Length n) after → ReadAs (fetchedPacket id location) (take n after)
   unfolding fetchedRequest fetchedPacket locationItem eofsEmpty emptyIfEof
-  fetched-back location w = written-back (fetchedPacket id location) (validLocation location) 20 out after n refl w
+  fetched-back location c = written-back (fetchedPacket id location) (validLocation location) badFragment before after n refl (fetched-was-written c)
 
-  pub stop-back : Writes (stopRequest id (length out)) out after (Length n) → packetOf (take n after) ≡ packet (stopPacket id)
+  pub stop-back : StopCall id before (Length n) after → ReadAs (stopPacket id) (take n after)
   unfolding stopRequest stopPacket eofsEmpty
-  stop-back w = written-back (stopPacket id) true 0 out after n refl w
+  stop-back c = written-back (stopPacket id) true 0 before after n refl (stop-was-written c)
+
+-- THEOREMS. With a valid name or location and room for the packet, every call writes it and answers its length.
+module _ (id : ℕ) (before : List ℕ) (answer : Written) (after : List ℕ) where
+  pub property-get-writes : (name : List ℕ) → validName name ≡ true → length (packetBytes (getPacket id name)) ≤ length before
+      → PropertyGetCall id name before answer after → Writes (wrote (packetBytes (getPacket id name))) before after answer
+  property-get-writes name valid room c = rw (get-fits id name (length before) valid room) at (get-was-written c)
+
+  pub file-request-writes : (location : List ℕ) (offset : Offset) → validLocation location ≡ true
+      → length (packetBytes (filePacket id location offset)) ≤ length before
+      → FileRequestCall id location offset before answer after → Writes (wrote (packetBytes (filePacket id location offset))) before after answer
+  file-request-writes location offset valid room c = rw (file-fits id location offset (length before) valid room) at (file-was-written c)
+
+  pub fetched-writes : (location : List ℕ) → validLocation location ≡ true → length (packetBytes (fetchedPacket id location)) ≤ length before
+      → FetchedCall id location before answer after → Writes (wrote (packetBytes (fetchedPacket id location))) before after answer
+  fetched-writes location valid room c = rw (fetched-fits id location (length before) valid room) at (fetched-was-written c)
+
+  pub stop-writes : length (packetBytes (stopPacket id)) ≤ length before → StopCall id before answer after
+      → Writes (wrote (packetBytes (stopPacket id))) before after answer
+  stop-writes room c = rw (stop-fits id (length before) room) at (stop-was-written c)
 
 -- a number's bytes, high byte first
 abbrev pub highFirst : ℕ → List ℕ → ℕ

@@ -1,6 +1,7 @@
 -- What the request writers do, over plain lists: a refusal keeps the output, and strings put one behind the other are the
 -- strings joined.
 use mathlib.Core.Path.{_≡_, sym, ap, _∙_}
+use mathlib.Core.Bool.{true}
 use mathlib.Core.List.{List, [], _++_}
 use Prim.Native.Nat.{ℕ, _+_, _≤_, _<_}
 use native.Mathlib.Omega.{arith}
@@ -8,8 +9,10 @@ use lib.ListN.{length, length-append}
 use borrow.Author.Tests.{le-leb, lt-leb}
 use Rattle.slices.specs.Put.{putAt}
 use Rattle.slices.proofs.PutLaws.{put-append}
-use Rattle.packet.specs.Packet.{withHead}
-use Rattle.packet.specs.Requests.{Output, wrote, refusedBy, fitted, answerOf, bytesOf, Writes}
+use Rattle.packet.specs.Packet.{withHead, packetBytes}
+use Rattle.packet.specs.Names.{validName, validLocation}
+use Rattle.packet.specs.Requests.{Output, wrote, refusedBy, fitted, answerOf, bytesOf, Writes, getPacket, filePacket, fetchedPacket, stopPacket, propertyGet, fileRequest, fetchedRequest, stopRequest}
+use Rattle.packet.specs.declared.requests.Offset.{Offset}
 use Rattle.packet.specs.declared.requests.Written.the-variants.{Length, Refused}
 
 -- a refusal answers its number and changes nothing
@@ -57,3 +60,27 @@ module _ (opcode id : ℕ) (front value further : List ℕ) where
       let p₃ : d₃ ≡ putAt d 0 (withHead opcode id (front ++ value)) = e₃ ∙ ap (λ (l : List ℕ). putAt l (4 + length front) value) p₂ ∙ rw (← second) (put-append d 0 (withHead opcode id front) value) in
       let p₄ : d₄ ≡ putAt d 0 (withHead opcode id (front ++ value ++ further)) = e₄ ∙ ap (λ (l : List ℕ). putAt l (4 + length front + length value) further) p₃ ∙ rw (← third) (put-append d 0 (withHead opcode id (front ++ value)) further) in
       writes-bytes _ (withHead opcode id (front ++ value ++ further)) d d₄ _ (rw (le-leb (length (withHead opcode id (front ++ value ++ further))) (length d) room)) (sym size) p₄
+
+-- with room the packet is written
+fits : (bytes : List ℕ) (room : ℕ) → length bytes ≤ room → fitted room bytes ≡ wrote bytes
+unfolding fitted
+fits bytes room h = rw (le-leb (length bytes) room h)
+
+pub get-fits : (id : ℕ) (name : List ℕ) (room : ℕ) → validName name ≡ true → length (packetBytes (getPacket id name)) ≤ room
+    → propertyGet id name room ≡ wrote (packetBytes (getPacket id name))
+unfolding propertyGet
+get-fits id name room valid h = rw valid (fits (packetBytes (getPacket id name)) room h)
+
+pub file-fits : (id : ℕ) (location : List ℕ) (offset : Offset) (room : ℕ) → validLocation location ≡ true
+    → length (packetBytes (filePacket id location offset)) ≤ room → fileRequest id location offset room ≡ wrote (packetBytes (filePacket id location offset))
+unfolding fileRequest
+file-fits id location offset room valid h = rw valid (fits (packetBytes (filePacket id location offset)) room h)
+
+pub fetched-fits : (id : ℕ) (location : List ℕ) (room : ℕ) → validLocation location ≡ true → length (packetBytes (fetchedPacket id location)) ≤ room
+    → fetchedRequest id location room ≡ wrote (packetBytes (fetchedPacket id location))
+unfolding fetchedRequest
+fetched-fits id location room valid h = rw valid (fits (packetBytes (fetchedPacket id location)) room h)
+
+pub stop-fits : (id room : ℕ) → length (packetBytes (stopPacket id)) ≤ room → stopRequest id room ≡ wrote (packetBytes (stopPacket id))
+unfolding stopRequest
+stop-fits id room h = fits (packetBytes (stopPacket id)) room h

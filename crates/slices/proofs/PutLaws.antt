@@ -54,6 +54,10 @@ put-start d xs h =
 pub put-first : (d xs : List ℕ) → length xs ≤ length d → take (length xs) (putAt d 0 xs) ≡ xs
 put-first d xs h = rw (put-start d xs h) (take-at xs (drop (length xs) d) (length xs) refl)
 
+-- and so are as many as a call told of them
+pub put-told : (d after xs : List ℕ) (n : ℕ) → after ≡ putAt d 0 xs → n ≡ length xs → length xs ≤ length d → take n after ≡ xs
+put-told d after xs n put size fits = rw (put, size) (put-first d xs fits)
+
 -- behind an element that stands first, bytes are put into the rest
 put-behind : (a : ℕ) (d : List ℕ) (at : ℕ) (xs : List ℕ) → putAt (a ∷ d) (suc at) xs ≡ a ∷ putAt d at xs
 put-behind a d at [] = refl

@@ -1,0 +1,151 @@
+-- What one call wrote another reads back, and every frame that has room is written, by the contracts that the toolchain reads off the
+-- source (`Learnt`): a contract that says less breaks this.
+use mathlib.Core.Path.{_≡_, refl, ap, _∙_}
+use mathlib.Core.List.{List, []}
+use Prim.Native.Nat.{ℕ, _+_, _≤_}
+use contract.Lifetimes.{Lfts}
+use native.Mathlib.Omega.{arith}
+use lib.ListN.{length, take}
+use Rattle.slices.specs.Put.{putAt}
+use Rattle.slices.proofs.PutLaws.{put-told}
+use Rattle.slices.proofs.Lent.{Lent, lent}
+use Rattle.frame.specs.Stuffing.{escapes}
+use Rattle.frame.specs.Content as content
+use Rattle.frame.specs.Content.{payloadMax, contentOf, Read, frame}
+use Rattle.frame.specs.Writing as writing
+use Rattle.frame.specs.Writing.{frameOf, written, refused, writeFrame}
+use Rattle.frame.specs.Reading.{readFrame}
+use Rattle.frame.specs.Answers.{readAnswer, readPayload, ReadsAs, writeAnswer, writtenBytes, WritesAs}
+use Rattle.frame.specs.declared.content.FrameRead.{FrameRead}
+use Rattle.frame.specs.declared.content.FrameRead.the-variants as read
+use Rattle.frame.specs.declared.writer.Written.{Written}
+use Rattle.frame.specs.declared.writer.Written.the-variants as answered
+use Rattle.frame.proofs.WriteLaws.{content-room, payload-allowed}
+use Rattle.frame.proofs.FrameTheorems.{written-length, wrote, written-read-back}
+use Rattle.frame.proofs.writer.write_frame.Reads as write-frame
+use Rattle.frame.proofs.reader.read_frame.Reads as read-frame
+
+-- a call of `write_frame`
+pub record Writes (kind sequence : ℕ) (payload before : List ℕ) (answer : Written) (after : List ℕ) : Type 0 where
+  pub lifetimes : Lfts 2
+  pub payload-lent : Lent payload
+  pub output-lent : Lent before
+  pub output-left : Lent after
+  pub asked : write-frame.Asked lifetimes (kind, (sequence, (payload-lent .slice, (output-lent .slice, tt))))
+  pub learnt :
+      write-frame.Learnt lifetimes (kind, (sequence, (payload-lent .slice, (output-lent .slice, tt)))) answer
+      (kind, (sequence, (payload-lent .slice, (output-left .slice, tt))))
+
+-- a call of `read_frame`
+pub record Reads (bytes before : List ℕ) (answer : FrameRead) (after : List ℕ) : Type 0 where
+  pub lifetimes : Lfts 2
+  pub bytes-lent : Lent bytes
+  pub output-lent : Lent before
+  pub output-left : Lent after
+  pub asked : read-frame.Asked lifetimes (bytes-lent .slice, (output-lent .slice, tt))
+  pub learnt : read-frame.Learnt lifetimes (bytes-lent .slice, (output-lent .slice, tt)) answer (bytes-lent .slice, (output-left .slice, tt))
+
+-- what such calls did, by the contracts
+was-written : {kind sequence : ℕ} {payload before : List ℕ} {answer : Written} {after : List ℕ} → Writes kind sequence payload before answer after
+    → WritesAs (writeFrame (length before) kind sequence payload) before answer after
+was-written w = rw (w .payload-lent .holds, w .output-lent .holds, w .output-left .holds) at (w .learnt)
+
+pub was-read : {bytes before : List ℕ} {answer : FrameRead} {after : List ℕ} → Reads bytes before answer after
+    → ReadsAs (readFrame (length before) bytes) before answer after
+was-read r = rw (r .bytes-lent .holds, r .output-lent .holds, r .output-left .holds) at (r .learnt)
+
+-- a length is answered only for a frame that was written, and so many bytes of the output are the frame
+record Sent (room kind sequence : ℕ) (payload : List ℕ) (n : ℕ) (after : List ℕ) : Type 0 where
+  bytes : List ℕ
+  is : writeFrame room kind sequence payload ≡ written bytes
+  first : take n after ≡ bytes
+
+module _ (kind sequence : ℕ) (payload before after : List ℕ) where
+  sent : (n : ℕ) → Writes kind sequence payload before (answered.Length n) after → Sent (length before) kind sequence payload n after
+  sent n w = cases (writeFrame (length before) kind sequence payload) refl (was-written w)
+    where
+      cases : (result : writing.Written) → writeFrame (length before) kind sequence payload ≡ result → WritesAs result before (answered.Length n) after
+          → Sent (length before) kind sequence payload n after
+      cases (refused m) e did = let a = did .answers in let z : _≡_ {A = ℕ} 0 1 = cc in absurd (omega arith)
+      cases (written bytes) e did =
+          let a = did .answers in
+          let size : n ≡ length bytes = cc in
+          let fits = wrote (length before) kind sequence payload bytes e .fits in
+          record { bytes = bytes; is = e; first = put-told before after bytes n (did .output) size fits }
+
+  -- THEOREM. Behind a call of `write_frame` that answered n, the first n bytes of its output, read by a call of `read_frame` with an output
+  -- of at least 383 bytes, are answered by type, sequence and the payload's length, and the payload stands at the start of that output.
+  pub call-read-back : (n : ℕ) (out : List ℕ) (answer : FrameRead) (out₁ : List ℕ)
+      → Writes kind sequence payload before (answered.Length n) after → Reads (take n after) out answer out₁ → payloadMax ≤ length out
+      → (answer ≡ read.Frame kind sequence (length payload)) × (out₁ ≡ putAt out 0 payload)
+  call-read-back n out answer out₁ w r asked =
+      let s = sent n w in
+      let back = written-read-back (length before) kind sequence payload (s .bytes) (length out) (s .is) asked in
+      let is : readFrame (length out) (take n after) ≡ frame kind sequence payload = rw (s .first) back in
+      let did = was-read r in
+      (did .answers ∙ ap readAnswer is, did .output ∙ rw is)
+
+  -- a refused call leaves the output as it was, of the writer and of the reader
+  pub refused-write-keeps : (m : ℕ) → Writes kind sequence payload before (answered.Refused m) after → after ≡ before
+  refused-write-keeps m w = cases (writeFrame (length before) kind sequence payload) (was-written w)
+    where
+      cases : (result : writing.Written) → WritesAs result before (answered.Refused m) after → after ≡ before
+      cases (refused k) did = did .output
+      cases (written bytes) did = let a = did .answers in let z : _≡_ {A = ℕ} 0 1 = cc in absurd (omega arith)
+
+pub refused-read-keeps : (bytes before : List ℕ) (m : ℕ) (after : List ℕ) → Reads bytes before (read.Refused m) after → after ≡ before
+refused-read-keeps bytes before m after r = cases (readFrame (length before) bytes) (was-read r)
+  where
+    cases : (found : Read) → ReadsAs found before (read.Refused m) after → after ≡ before
+    cases (content.refused k) did = did .output
+    cases (frame kind sequence payload) did = let a = did .answers in let z : _≡_ {A = ℕ} 0 1 = cc in absurd (omega arith)
+
+-- 01, Frames: the written length is 6 plus the payload length plus the number of 7d and 7e bytes in content
+abbrev pub sentLength : ℕ → ℕ → List ℕ → ℕ
+sentLength kind sequence payload = 6 + length payload + escapes (contentOf kind sequence payload)
+
+module _ (kind sequence : ℕ) (payload out : List ℕ) where
+  -- there is a call of the writer for every input, since the contract asks nothing
+  pub every-payload-is-judged :
+      Writes kind sequence payload out (writeAnswer (writeFrame (length out) kind sequence payload))
+      (putAt out 0 (writtenBytes (writeFrame (length out) kind sequence payload)))
+  every-payload-is-judged =
+      record {
+        lifetimes = ([], ([], tt));
+        payload-lent = lent payload;
+        output-lent = lent out;
+        output-left = lent (putAt out 0 (writtenBytes (writeFrame (length out) kind sequence payload)));
+        asked = tt;
+        learnt = record { answers = refl; output = refl };
+      }
+
+  module _ (short : length payload ≤ payloadMax) (room : sentLength kind sequence payload ≤ length out) where
+    is-written : writeFrame (length out) kind sequence payload ≡ written (frameOf kind sequence payload)
+    is-written =
+        payload-allowed (length out) kind sequence payload short
+        ∙ content-room (length out) (contentOf kind sequence payload) (sentLength kind sequence payload) (written-length kind sequence payload) room
+
+    -- THEOREM. Every call of `write_frame` with a payload of at most 383 bytes and room for the frame writes it and answers its length,
+    -- whatever the type and the sequence.
+    pub room-enough : (answer : Written) (after : List ℕ) → Writes kind sequence payload out answer after
+        → (answer ≡ answered.Length (sentLength kind sequence payload)) × (after ≡ putAt out 0 (frameOf kind sequence payload))
+    room-enough answer after w =
+        let did = was-written w in
+        (did .answers ∙ rw (is-written, written-length kind sequence payload), did .output ∙ rw is-written)
+
+    -- and there is such a call
+    pub every-frame-is-written : Writes kind sequence payload out (answered.Length (sentLength kind sequence payload)) (putAt out 0 (frameOf kind sequence payload))
+    every-frame-is-written = rw (is-written, written-length kind sequence payload) at every-payload-is-judged
+
+-- there is a call of the reader for all bytes and every output
+pub all-bytes-are-read : (bytes out : List ℕ)
+    → Reads bytes out (readAnswer (readFrame (length out) bytes)) (putAt out 0 (readPayload (readFrame (length out) bytes)))
+all-bytes-are-read bytes out =
+    record {
+      lifetimes = ([], ([], tt));
+      bytes-lent = lent bytes;
+      output-lent = lent out;
+      output-left = lent (putAt out 0 (readPayload (readFrame (length out) bytes)));
+      asked = tt;
+      learnt = record { answers = refl; output = refl };
+    }

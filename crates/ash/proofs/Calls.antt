@@ -3,12 +3,12 @@
 use mathlib.Core.Path.{_≡_, refl, ap, _∙_}
 use mathlib.Core.List.{List, []}
 use Prim.Native.Nat.{ℕ, _+_, _≤_}
-use denote.Ref.{RefT}
 use contract.Lifetimes.{Lfts}
 use native.Mathlib.Omega.{arith}
 use lib.ListN.{length, take}
 use Rattle.slices.specs.Put.{putAt}
-use Rattle.slices.proofs.PutLaws.{put-first}
+use Rattle.slices.proofs.PutLaws.{put-told}
+use Rattle.slices.proofs.Lent.{Lent, lent}
 use Rattle.ash.specs.Stuffing.{payloadMax, stuff}
 use Rattle.ash.specs.Writing as writing
 use Rattle.ash.specs.Writing.{frameOf, writeFrame}
@@ -28,33 +28,31 @@ use Rattle.ash.proofs.reader.read_frame.Reads as read-frame
 -- a call of `write_frame`: the slices lent hold the payload and the output as it was, and at exit the output as it is
 pub record Writes (control : ℕ) (payload before : List ℕ) (answer : Written) (after : List ℕ) : Type 0 where
   pub lifetimes : Lfts 2
-  pub lent-payload : RefT (List ℕ)
-  pub lent-output : RefT (List ℕ)
-  pub left-output : RefT (List ℕ)
-  pub payload-is : lent-payload .now ≡ payload
-  pub output-was : lent-output .now ≡ before
-  pub output-is : left-output .now ≡ after
-  pub learnt : write-frame.Learnt lifetimes (control, (lent-payload, (lent-output, tt))) answer (control, (lent-payload, (left-output, tt)))
+  pub payload-lent : Lent payload
+  pub output-lent : Lent before
+  pub output-left : Lent after
+  pub asked : write-frame.Asked lifetimes (control, (payload-lent .slice, (output-lent .slice, tt)))
+  pub learnt :
+      write-frame.Learnt lifetimes (control, (payload-lent .slice, (output-lent .slice, tt))) answer
+      (control, (payload-lent .slice, (output-left .slice, tt)))
 
 -- a call of `read_frame`
 pub record Reads (bytes before : List ℕ) (answer : FrameRead) (after : List ℕ) : Type 0 where
   pub lifetimes : Lfts 2
-  pub lent-bytes : RefT (List ℕ)
-  pub lent-output : RefT (List ℕ)
-  pub left-output : RefT (List ℕ)
-  pub bytes-are : lent-bytes .now ≡ bytes
-  pub output-was : lent-output .now ≡ before
-  pub output-is : left-output .now ≡ after
-  pub learnt : read-frame.Learnt lifetimes (lent-bytes, (lent-output, tt)) answer (lent-bytes, (left-output, tt))
+  pub bytes-lent : Lent bytes
+  pub output-lent : Lent before
+  pub output-left : Lent after
+  pub asked : read-frame.Asked lifetimes (bytes-lent .slice, (output-lent .slice, tt))
+  pub learnt : read-frame.Learnt lifetimes (bytes-lent .slice, (output-lent .slice, tt)) answer (bytes-lent .slice, (output-left .slice, tt))
 
 -- what such calls did, by the contracts
 pub was-written : {control : ℕ} {payload before : List ℕ} {answer : Written} {after : List ℕ} → Writes control payload before answer after
     → WritesAs (writeFrame (length before) control payload) before answer after
-was-written w = rw (w .payload-is, w .output-was, w .output-is) at (w .learnt)
+was-written w = rw (w .payload-lent .holds, w .output-lent .holds, w .output-left .holds) at (w .learnt)
 
 pub was-read : {bytes before : List ℕ} {answer : FrameRead} {after : List ℕ} → Reads bytes before answer after
     → ReadsAs (readFrame (length before) bytes) before answer after
-was-read r = rw (r .bytes-are, r .output-was, r .output-is) at (r .learnt)
+was-read r = rw (r .bytes-lent .holds, r .output-lent .holds, r .output-left .holds) at (r .learnt)
 
 -- a length is answered only for a frame that was written, a frame only where one was found
 record Told (result : writing.Written) (n : ℕ) : Type 0 where
@@ -76,10 +74,6 @@ found (reading.frame c p) control n e =
     let same : c ≡ control = cc in
     record { payload = p; is = ap (λ (x : ℕ). reading.frame x p) same; size = let size : n ≡ length p = cc in size }
 found (reading.refused m) control n e = let z : _≡_ {A = ℕ} 0 1 = cc in absurd (omega arith)
-
--- bytes put at the start of an output with room, told by their number
-put-told : (out after xs : List ℕ) (n : ℕ) → after ≡ putAt out 0 xs → n ≡ length xs → length xs ≤ length out → take n after ≡ xs
-put-told out after xs n put size fits = rw (put, size) (put-first out xs fits)
 
 -- where a call answered a length n, the payload is of at most 57 bytes as sent and the first n bytes of the output are its frame
 pub record FrameOut (control : ℕ) (payload : List ℕ) (n : ℕ) (after : List ℕ) : Type 0 where
@@ -106,21 +100,16 @@ frame-in {bytes} {before} {control} {n} {after} r =
     rw (put-told before after (f .payload) n put (f .size) fits) (f .is)
 
 -- Such calls are there, since the contracts ask nothing: one for all that can be lent.
-abbrev slice : List ℕ → RefT (List ℕ)
-slice bytes = record { ptr = (0, 0); name = 0; now = bytes }
-
 pub all-payloads-are-written : (control : ℕ) (payload before : List ℕ)
     → Writes control payload before (writeAnswer (writeFrame (length before) control payload))
     (putAt before 0 (writtenBytes (writeFrame (length before) control payload)))
 all-payloads-are-written control payload before =
     record {
       lifetimes = ([], ([], tt));
-      lent-payload = slice payload;
-      lent-output = slice before;
-      left-output = slice (putAt before 0 (writtenBytes (writeFrame (length before) control payload)));
-      payload-is = refl;
-      output-was = refl;
-      output-is = refl;
+      payload-lent = lent payload;
+      output-lent = lent before;
+      output-left = lent (putAt before 0 (writtenBytes (writeFrame (length before) control payload)));
+      asked = tt;
       learnt = record { answers = refl; output = refl };
     }
 
@@ -129,12 +118,10 @@ pub all-bytes-are-read : (bytes before : List ℕ)
 all-bytes-are-read bytes before =
     record {
       lifetimes = ([], ([], tt));
-      lent-bytes = slice bytes;
-      lent-output = slice before;
-      left-output = slice (putAt before 0 (readPayload (readFrame (length before) bytes)));
-      bytes-are = refl;
-      output-was = refl;
-      output-is = refl;
+      bytes-lent = lent bytes;
+      output-lent = lent before;
+      output-left = lent (putAt before 0 (readPayload (readFrame (length before) bytes)));
+      asked = tt;
       learnt = record { answers = refl; output = refl };
     }
 

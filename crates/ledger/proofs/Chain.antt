@@ -4,9 +4,9 @@ use mathlib.Core.Path.{_≡_, refl}
 use mathlib.Core.List.{List, [], _∷_, _++_}
 use Prim.Native.Nat.{ℕ}
 use lib.ListN.{length}
-use denote.Ref.{RefT}
 use contract.Lifetimes.{Lfts}
 use Rattle.slices.specs.Put.{putAt}
+use Rattle.slices.proofs.Lent.{Lent, lent}
 use Rattle.rows.specs.declared.Board.{Board}
 use Rattle.rows.proofs.fresh.Reads as fresh
 use Rattle.board.specs.declared.list.Listed.the-variants.{Accepted}
@@ -26,18 +26,15 @@ use Rattle.ledger.specs.Shown.{Left, took, ticked}
 -- one call of `display::receive`: the slices lent hold the piece and the buffers as they were, and at exit the buffers as they are
 pub record Receives (d : Display) (bytes reply packet : List ℕ) (result : Received) (reply₁ packet₁ : List ℕ) : Type 0 where
   pub lifetimes : Lfts 3
-  pub lent-piece : RefT (List ℕ)
-  pub lent-reply : RefT (List ℕ)
-  pub lent-packet : RefT (List ℕ)
-  pub left-reply : RefT (List ℕ)
-  pub left-packet : RefT (List ℕ)
-  pub piece-is : lent-piece .now ≡ bytes
-  pub reply-was : lent-reply .now ≡ reply
-  pub packet-was : lent-packet .now ≡ packet
-  pub reply-is : left-reply .now ≡ reply₁
-  pub packet-is : left-packet .now ≡ packet₁
+  pub piece-lent : Lent bytes
+  pub reply-lent : Lent reply
+  pub packet-lent : Lent packet
+  pub reply-left : Lent reply₁
+  pub packet-left : Lent packet₁
+  pub asked : receive.Asked lifetimes (d, (piece-lent .slice, (reply-lent .slice, (packet-lent .slice, tt))))
   pub learnt :
-      receive.Learnt lifetimes (d, (lent-piece, (lent-reply, (lent-packet, tt)))) result (d, (lent-piece, (left-reply, (left-packet, tt))))
+      receive.Learnt lifetimes (d, (piece-lent .slice, (reply-lent .slice, (packet-lent .slice, tt)))) result
+      (d, (piece-lent .slice, (reply-left .slice, (packet-left .slice, tt))))
 
 -- one call of `display::tick`
 abbrev pub Ticks : Display → Display → Type 0
@@ -50,16 +47,16 @@ Starts board d = start.Learnt tt (board, tt) d (board, tt)
 -- one call of `board::watch` with a name
 pub record Watches (board : Board) (name : List ℕ) (watched : Watched) : Type 0 where
   pub lifetimes : Lfts 1
-  pub lent-name : RefT (List ℕ)
-  pub name-is : lent-name .now ≡ name
-  pub learnt : watch.Learnt lifetimes (board, (lent-name, tt)) watched (board, (lent-name, tt))
+  pub name-lent : Lent name
+  pub asked : watch.Asked lifetimes (board, (name-lent .slice, tt))
+  pub learnt : watch.Learnt lifetimes (board, (name-lent .slice, tt)) watched (board, (name-lent .slice, tt))
 
 -- one call of `board::watch_list`
 pub record Lists (fields : List ℕ) (watched : Watched) : Type 0 where
   pub lifetimes : Lfts 1
-  pub lent-list : RefT (List ℕ)
-  pub list-is : lent-list .now ≡ fields
-  pub learnt : watch-list.Learnt lifetimes (lent-list, tt) watched (lent-list, tt)
+  pub list-lent : Lent fields
+  pub asked : watch-list.Asked lifetimes (list-lent .slice, tt)
+  pub learnt : watch-list.Learnt lifetimes (list-lent .slice, tt) watched (list-lent .slice, tt)
 
 -- A fresh start. A list as bytes: `board::watch_list` accepted it, and `display::start` was given its board. Names one at a time, as
 -- `replay` takes them: `rows::fresh`, then `board::watch` accepted each name on the board of those before it, and `display::start` was
@@ -81,12 +78,10 @@ pub data Chain : Display → List Call → List Left → Display → Type 0 wher
 -- what such a call did, by the contract
 pub received : {d : Display} {bytes reply packet reply₁ packet₁ : List ℕ} {result : Received} → Receives d bytes reply packet result reply₁ packet₁
     → DisplaysAs (receivePiece d bytes (length reply) (length packet)) reply packet result reply₁ packet₁
-received r = rw (r .piece-is, r .reply-was, r .packet-was, r .reply-is, r .packet-is) at (r .learnt)
+received r =
+    rw (r .piece-lent .holds, r .reply-lent .holds, r .packet-lent .holds, r .reply-left .holds, r .packet-left .holds) at (r .learnt)
 
 -- The theorems are about something: from every fresh start there is a chain for every list of calls.
-abbrev pub slice : List ℕ → RefT (List ℕ)
-slice bytes = record { ptr = (0, 0); name = 0; now = bytes }
-
 pub record Runs (d : Display) (cs : List Call) : Type 0 where
   pub left : List Left
   pub end : Display
@@ -100,16 +95,12 @@ received-by d bytes reply packet =
     let outcome = receivePiece d bytes (length reply) (length packet) in
     record {
       lifetimes = ([], ([], ([], tt)));
-      lent-piece = slice bytes;
-      lent-reply = slice reply;
-      lent-packet = slice packet;
-      left-reply = slice (putAt reply 0 (outcome .reply));
-      left-packet = slice (putAt packet 0 (outcome .packet));
-      piece-is = refl;
-      reply-was = refl;
-      packet-was = refl;
-      reply-is = refl;
-      packet-is = refl;
+      piece-lent = lent bytes;
+      reply-lent = lent reply;
+      packet-lent = lent packet;
+      reply-left = lent (putAt reply 0 (outcome .reply));
+      packet-left = lent (putAt packet 0 (outcome .packet));
+      asked = tt;
       learnt = record { answers = refl; replied = refl; handed-out = refl };
     }
 
@@ -124,9 +115,9 @@ every-list-runs d (answers.tick ∷ cs) =
     record { left = ticked ∷ rest .left; end = rest .end; chain = ticks refl (rest .chain) }
 
 -- Nothing is asked before the next call, whatever came before it.
-pub next-piece : (d : Display) (lifetimes : Lfts 3) (lent-piece lent-reply lent-packet : RefT (List ℕ))
-    → receive.Asked lifetimes (d, (lent-piece, (lent-reply, (lent-packet, tt))))
-next-piece d lifetimes lent-piece lent-reply lent-packet = tt
+pub next-piece : (d : Display) (bytes reply packet : List ℕ) (lifetimes : Lfts 3)
+    → receive.Asked lifetimes (d, (lent bytes .slice, (lent reply .slice, (lent packet .slice, tt))))
+next-piece d bytes reply packet lifetimes = tt
 
 pub next-tick : (d : Display) → tick.Asked tt (d, tt)
 next-tick d = tt

@@ -5,6 +5,7 @@ use mathlib.Core.List.{List, [], _∷_, _++_, append-assoc, append-nil}
 use mathlib.Core.Option.{Option, some, none}
 use Prim.Native.Nat.{ℕ}
 use native.Mathlib.Omega.{arith}
+use Rattle.slices.proofs.Lent.{lent}
 use Rattle.rows.specs.Rows.{boardOf}
 use Rattle.rows.specs.declared.Board.{Board}
 use Rattle.board.specs.WatchList.{Good, watchNames, fieldsOf, watchBoard, asWatched}
@@ -16,7 +17,7 @@ use Rattle.board.proofs.WatchLaws.{good-none, good-more, watch-more, accepted-j
 use Rattle.display.specs.Display as display
 use Rattle.display.specs.declared.Display.{Display}
 use Rattle.ledger.specs.Answers.{WatchList, as-bytes, one-by-one, namesIn}
-use Rattle.ledger.proofs.Chain.{Begins, from-bytes, no-names, one-more, slice}
+use Rattle.ledger.proofs.Chain.{Begins, from-bytes, no-names, one-more}
 
 -- what a fresh start is, by the contracts of the functions that made it
 pub record Began (w : WatchList) (d : Display) : Type 0 where
@@ -57,13 +58,13 @@ some-names e = cc
 
 pub began : (w : WatchList) (d : Display) → Begins w d → Began w d
 began (as-bytes fields) d (from-bytes {watched = watched} lists accepted started) =
-    from-list fields watched d (rw (lists .list-is) at (lists .learnt)) accepted started
+    from-list fields watched d (rw (lists .list-lent .holds) at (lists .learnt)) accepted started
 began (one-by-one ns) d (no-names made started) =
     record { names = []; listed = refl; good = good-none; is = started ∙ ap display.fresh made }
 began (one-by-one ns) d (one-more {names = names} {name = name} {watched = watched} {d = d₀} before watches accepted started) =
     let so-far = began (one-by-one names) d₀ before in
     let same = some-names (so-far .listed) in
-    let told : watched ≡ watchBoard (d₀ .board) name = rw (watches .name-is) at (watches .learnt) in
+    let told : watched ≡ watchBoard (d₀ .board) name = rw (watches .name-lent .holds) at (watches .learnt) in
     let board-is : d₀ .board ≡ boardOf names = ap (λ (x : Display). x .board) (so-far .is) ∙ ap boardOf same in
     let j = joined names name (d₀ .board) watched (rw same at (so-far .good)) board-is told accepted in
     record { names = names ++ (name ∷ []); listed = refl; good = j .good; is = started ∙ ap display.fresh (j .is) }
@@ -72,7 +73,7 @@ began (one-by-one ns) d (one-more {names = names} {name = name} {watched = watch
 pub accepted-begins : (fields : List ℕ) (names : List (List ℕ)) → watchNames fields ≡ some names → Begins (as-bytes fields) (display.fresh (boardOf names))
 accepted-begins fields names e =
     from-bytes
-    (record { lifetimes = ([], tt); lent-list = slice fields; list-is = refl; learnt = ap asWatched (sym e) })
+    (record { lifetimes = ([], tt); list-lent = lent fields; asked = tt; learnt = ap asWatched (sym e) })
     refl
     refl
 
@@ -89,7 +90,7 @@ names-begin before (name ∷ names) good all begins =
     let behind : before ++ (name ∷ []) ++ names ≡ before ++ (name ∷ names) = append-assoc before (name ∷ []) names in
     let with-name =
     one-more begins
-    (record { lifetimes = ([], tt); lent-name = slice name; name-is = refl; learnt = sym (watch-more before name good joins) })
+    (record { lifetimes = ([], tt); name-lent = lent name; asked = tt; learnt = sym (watch-more before name good joins) })
     refl
     refl in
     rw behind at (names-begin (before ++ (name ∷ [])) names (good-more before name good joins) (rw behind all) with-name)

@@ -3,8 +3,8 @@
 use mathlib.Core.Path.{_≡_, refl}
 use mathlib.Core.List.{List, [], _∷_}
 use Prim.Native.Nat.{ℕ}
-use denote.Ref.{RefT}
 use contract.Lifetimes.{Lfts}
+use Rattle.slices.proofs.Lent.{Lent, lent}
 use Rattle.packet.specs.Items.{valueIn}
 use Rattle.packet.specs.Packet.{packetItems}
 use Rattle.transfer.specs.Fragment.{binaryKind}
@@ -17,20 +17,20 @@ use Rattle.transfer.proofs.taking.take.Reads as take
 -- one call of `start`
 pub record Starts (location : List ℕ) (outcome : Outcome) : Type 0 where
   pub lifetimes : Lfts 1
-  pub lent-location : RefT (List ℕ)
-  pub location-is : lent-location .now ≡ location
-  pub learnt : start.Learnt lifetimes (lent-location, tt) outcome (lent-location, tt)
+  pub location-lent : Lent location
+  pub asked : start.Asked lifetimes (location-lent .slice, tt)
+  pub learnt : start.Learnt lifetimes (location-lent .slice, tt) outcome (location-lent .slice, tt)
 
 -- one call of `take`: the file buffer is lent as the last call left it
 pub record TakesPacket (held : Held) (bytes after : List ℕ) (outcome : Outcome) : Type 0 where
   pub lifetimes : Lfts 2
-  pub lent-packet : RefT (List ℕ)
-  pub lent-file : RefT (List ℕ)
-  pub left-file : RefT (List ℕ)
-  pub packet-is : lent-packet .now ≡ bytes
-  pub file-was : lent-file .now ≡ held .file
-  pub file-is : left-file .now ≡ after
-  pub learnt : take.Learnt lifetimes (held .transfer, (lent-packet, (lent-file, tt))) outcome (held .transfer, (lent-packet, (left-file, tt)))
+  pub packet-lent : Lent bytes
+  pub file-lent : Lent (held .file)
+  pub file-left : Lent after
+  pub asked : take.Asked lifetimes (held .transfer, (packet-lent .slice, (file-lent .slice, tt)))
+  pub learnt :
+      take.Learnt lifetimes (held .transfer, (packet-lent .slice, (file-lent .slice, tt))) outcome
+      (held .transfer, (packet-lent .slice, (file-left .slice, tt)))
 
 -- a list of packets, each given to a call, and what the last call leaves
 pub data Calls : Held → List (List ℕ) → Held → Type 0 where
@@ -43,17 +43,14 @@ pub data Calls : Held → List (List ℕ) → Held → Type 0 where
 
 -- what such calls did, by the contracts
 pub was-started : {location : List ℕ} {outcome : Outcome} → Starts location outcome → outcome ≡ startOf location
-was-started s = rw (s .location-is) at (s .learnt)
+was-started s = rw (s .location-lent .holds) at (s .learnt)
 
 pub was-taken : {held : Held} {bytes after : List ℕ} {outcome : Outcome} → TakesPacket held bytes after outcome
     → Takes (held .transfer) bytes (held .file) after outcome
-was-taken t = rw (t .packet-is, t .file-was, t .file-is) at (t .learnt)
-
-abbrev slice : List ℕ → RefT (List ℕ)
-slice bytes = record { ptr = (0, 0); name = 0; now = bytes }
+was-taken t = rw (t .packet-lent .holds, t .file-lent .holds, t .file-left .holds) at (t .learnt)
 
 pub every-location-is-answered : (location : List ℕ) → Starts location (startOf location)
-every-location-is-answered location = record { lifetimes = ([], tt); lent-location = slice location; location-is = refl; learnt = refl }
+every-location-is-answered location = record { lifetimes = ([], tt); location-lent = lent location; asked = tt; learnt = refl }
 
 pub record Answered (held : Held) (packets : List (List ℕ)) : Type 0 where
   pub end : Held
@@ -69,12 +66,10 @@ every-list-is-answered (bytes ∷ packets) held =
     let first : TakesPacket held bytes after outcome =
     record {
       lifetimes = ([], ([], tt));
-      lent-packet = slice bytes;
-      lent-file = slice (held .file);
-      left-file = slice after;
-      packet-is = refl;
-      file-was = refl;
-      file-is = refl;
+      packet-lent = lent bytes;
+      file-lent = lent (held .file);
+      file-left = lent after;
+      asked = tt;
       learnt = record { answered = refl; written = refl };
     } in
     record { end = rest .end; calls = call held (rest .end) bytes after outcome packets first (rest .calls) }

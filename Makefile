@@ -11,6 +11,7 @@
 #   make valgrind       run the host tests under valgrind, in about three minutes
 #   make mutants        try mutants of the code against the prover; of all crates it takes hours,
 #                       of some: make mutants CRATES="crc value"
+#   make emptied        empty the contract of each public function, and say what breaks; CRATES as above
 #   make bench          measure speed, stack and code size
 #   make bench-receive  measure the speed of the receiver alone
 #   make measure        measure stack and code size alone
@@ -44,7 +45,7 @@ RECEIVER ?= target/bin/receive_bench
 # What a rule compiles and links: its prerequisites without the headers.
 INPUTS = $(filter-out %.h,$^)
 
-.PHONY: all run example history_text test soak mutants fuzz fuzz-packages valgrind bench bench-receive \
+.PHONY: all run example history_text test soak mutants emptied fuzz fuzz-packages valgrind bench bench-receive \
 	measure clean
 .DELETE_ON_ERROR:
 
@@ -209,6 +210,11 @@ mutants:
 	rt check $(CRATES)
 	mkdir -p $(OUT)
 	host/mutants/run.py $(OUT)/mutants $(CRATES)
+
+emptied:
+	rt check $(CRATES) ledger answers
+	mkdir -p $(OUT)
+	host/mutants/emptied.py $(OUT)/emptied $(CRATES)
 
 # The measurements
 

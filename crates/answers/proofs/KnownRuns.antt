@@ -1,7 +1,7 @@
 -- 01, Known answers, run and compared: the frame of case 6 with sequence 01 sent twice, with a tick between. The theorems over every list of
 -- calls are about something there, since both sides compute to the same: the second frame is repeated at once, and every display that was
 -- given these calls shows 3450 with age 1.
-use mathlib.Core.Path.{_≡_, refl, ap, _∙_}
+use mathlib.Core.Path.{_≡_, refl, ap}
 use mathlib.Core.List.{List, [], _∷_, map}
 use mathlib.Core.Option.{some}
 use Prim.Native.Nat.{ℕ}
@@ -26,7 +26,7 @@ use Rattle.board.specs.Reading.{taskOfItems, taskOf, valueOfItem, withValue, wi
 use Rattle.display.specs.declared.Display.{Display}
 use Rattle.ledger.specs.Ledger.{moreAt, updated, start}
 use Rattle.ledger.specs.Frames.{turn, taken, frameOf, good}
-use Rattle.ledger.specs.Answers.{WatchList, one-by-one, Call, piece, tick}
+use Rattle.ledger.specs.Answers.{one-by-one, Call, piece, tick}
 use Rattle.ledger.specs.Calls.{step, given, after}
 use Rattle.ledger.specs.Shown.{Left, asLeft}
 use Rattle.ledger.specs.History.{Event, eventsOf, history}

@@ -39,7 +39,7 @@ pub record LongAgo (names : List (List ℕ)) (name : List ℕ) (left : List Left
   pub last : LastAccepted names name value ticks left
   pub old : 30 ≤ ticks
 
--- After every list of calls, the row of a watched name
+-- After every list of calls, at the place of a watched name in the watch list:
 module _ (names : List (List ℕ)) (w : WatchList) (listed : namesIn w ≡ some names) (d : Display) (begins : Begins w d)
     (cs : List Call) (left : List Left) (end : Display) (chain : Chain d cs left end)
     (name : List ℕ) (place : ℕ) (stands : placeOf name names ≡ some place) where
@@ -63,12 +63,12 @@ module _ (names : List (List ℕ)) (w : WatchList) (listed : namesIn w ≡ some 
   by-none : allAccepted names name left ≡ [] → rowAt (end .board) place .state ≡ Never
   by-none quiet = state-is ∙ rw (none-is names name left quiet)
 
-  -- THEOREM. is the row of that name:
+  -- THEOREM. There stands the row of that name.
   pub row-named : rowName (rowAt (end .board) place) ≡ name
   row-named = ap rowName row-is ∙ placed .named
 
-  -- THEOREM. it is CURRENT with a value and an age EXACTLY WHEN the last update accepted for the name had that value and closed that many
-  -- ticks ago, and they are fewer than 30;
+  -- THEOREM. The row is current, with a value and an age, exactly when the last update accepted for the name had that value and closed that
+  -- many ticks ago, fewer than 30.
   pub current-exactly-when : (value : ℤ) (age : ℕ) → (rowAt (end .board) place .state ≡ Current value age) ↔ (LastAccepted names name value age left × (age < 30))
   current-exactly-when value age = (only (found names name left), λ l. by-last value age (l .0) ∙ rw (lt-ltb age 30 (l .1)))
     where
@@ -85,7 +85,7 @@ module _ (names : List (List ℕ)) (w : WatchList) (listed : namesIn w ≡ some 
       only (inl f) e = by-age f (ltb (f .ticks) 30) refl (sym (by-last (f .value) (f .ticks) (f .last)) ∙ e)
       only (inr quiet) e = let never = sym (by-none quiet) ∙ e in let z : _≡_ {A = ℕ} 0 1 = cc in absurd (omega arith)
 
-  -- THEOREM. it is silent exactly when that update closed 30 or more ticks ago;
+  -- THEOREM. It is silent exactly when that update closed 30 or more ticks ago.
   pub silent-exactly-when : (rowAt (end .board) place .state ≡ Silent) ↔ LongAgo names name left
   silent-exactly-when = (only (found names name left), λ l. by-last (l .value) (l .ticks) (l .last) ∙ rw (le-ltb (l .ticks) 30 (l .old)))
     where
@@ -97,7 +97,7 @@ module _ (names : List (List ℕ)) (w : WatchList) (listed : namesIn w ≡ some 
       only (inl f) e = by-age f (ltb (f .ticks) 30) refl (sym (by-last (f .value) (f .ticks) (f .last)) ∙ e)
       only (inr quiet) e = let never = sym (by-none quiet) ∙ e in let z : _≡_ {A = ℕ} 0 1 = cc in absurd (omega arith)
 
-  -- THEOREM. and it shows that nothing came yet exactly when no update was accepted for the name.
+  -- THEOREM. It is never exactly when no update was accepted for the name.
   pub never-exactly-when : (rowAt (end .board) place .state ≡ Never) ↔ (allAccepted names name left ≡ [])
   never-exactly-when = (only (found names name left), by-none)
     where

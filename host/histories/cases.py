@@ -52,6 +52,7 @@ def received(data):
 TICK = field(3)
 H1 = item(1, b"h1")
 CENTS = item(0x16, b"\x00\x00\x0d\x7a")
+EOF = item(0x14, b"")
 UPDATE = packet(H1, CENTS)
 REPLY = "reply 7e02007b6d7e"
 REPLY_1 = "reply 7e02016b4c7e"
@@ -72,6 +73,16 @@ def refused_frame(data, number):
     refused = [0] * 6
     refused[number - 1] = 1
     return names(b"h1") + received(data), ["h1 never"] + counts(refused=refused)
+
+
+def damaged(sent):
+    """The frame with one bit of its check changed."""
+    return sent[:-2] + bytes([sent[-2] ^ 1]) + sent[-1:]
+
+
+def end_mark(payload):
+    history = names(b"h1") + received(frame(1, 0, payload))
+    return history, [REPLY, "h1 never"] + counts(new=1)
 
 
 def refused_packet(payload):
@@ -108,6 +119,11 @@ def cases():
     yield "refusal_4", *refused_frame(case_6[:-2] + b"\xa5\x7e", 4)
     yield "refusal_5", *refused_frame(frame(3, 0, UPDATE), 5)
     yield "refusal_6", *refused_frame(frame(2, 0, b"\x00"), 6)
+    yield "refusal_1_before_2", *refused_frame(b"\x7e\x7d\x41" + bytes(388) + b"\x7e", 1)
+    yield "refusal_2_before_1", *refused_frame(b"\x7e" + bytes(388) + b"\x7d\x41\x7e", 2)
+    yield "refusal_3_before_5", *refused_frame(b"\x7e\x03\x00\x7e", 3)
+    yield "refusal_4_before_5", *refused_frame(damaged(frame(3, 0, UPDATE)), 4)
+    yield "refusal_4_before_6", *refused_frame(damaged(frame(2, 0, b"\x00")), 4)
 
     yield "refusal_9", *refused_packet(b"\x01\x03\x00")
     yield "refusal_10", *refused_packet(packet(b"\x01\x05h"))
@@ -116,8 +132,10 @@ def cases():
     yield "refusal_13", *refused_packet(packet(H1, item(2, b"\x00\x00\x01")))
     yield "refusal_14", *refused_packet(packet(item(1, b"h9"), CENTS))
     yield "longest_payload", *refused_packet(bytes(383))
-    yield "end_mark", names(b"h1") + received(frame(1, 0, packet(item(0x14, b"")))), [
-        REPLY, "h1 never"] + counts(new=1)
+    yield "end_mark", *end_mark(packet(EOF))
+    yield "two_eof_items", *end_mark(packet(EOF, EOF))
+    yield "eof_beside_a_value", *end_mark(packet(CENTS, EOF))
+    yield "eof_behind_the_name", *refused_packet(packet(H1, EOF))
 
     yield "repeated", names(b"h1") + received(again) + TICK + received(again), [
         REPLY_1, REPLY_1, "h1 current 3450 1"] + counts(new=1, again=1)
@@ -156,6 +174,10 @@ def cases():
     yield "name_after_a_piece", *broken(received(b"") + names(b"h2"))
     yield "other_tag", *broken(names(b"h1") + received(case_6) + field(4) + TICK, REPLY)
     yield "tick_of_1", *broken(names(b"h1") + field(3, b"\x00"))
+    # The low byte of these lengths alone would give a good name or tick, with a good field behind it.
+    yield "name_of_258", *broken(field(1, b"h1" + received(bytes(253))))
+    yield "name_of_258_cut", *broken(field(1, b"h1" + received(bytes(253)))[:5])
+    yield "tick_of_256", *broken(names(b"h1") + field(3, received(bytes(253))))
     yield "field_of_4096", received(bytes(4096)), counts()
     yield "field_of_4097", *broken(received(bytes(4097)))
     yield "frame_in_a_field_of_4097", *broken(received(case_6 + bytes(4097 - len(case_6))))

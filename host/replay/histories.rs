@@ -91,6 +91,12 @@ fn watch_list(random: &mut Random, names: &[Vec<u8>]) -> Vec<u8> {
     if random.below(40) == 0 {
         field(&mut history, 1, random.one_of(&BAD_NAMES).as_bytes());
     }
+    if random.below(40) == 0 {
+        // A length with a high byte, of which the low byte alone would be right.
+        let name = random.one_of(&NAMES).as_bytes();
+        history.extend([1, 1, name.len() as u8]);
+        history.extend(name);
+    }
     history
 }
 
@@ -147,6 +153,7 @@ impl Sender {
             4 => enclose(random.byte(), random.byte(), &[]),
             5..=6 => enclose(1, self.next(random), &long(random)),
             7 => vec![FLAG, random.byte() & 0x3f, FLAG],
+            8 => two_faults(random),
             _ => enclose(1, self.next(random), &self.packet(random)),
         }
     }
@@ -189,10 +196,35 @@ impl Sender {
     }
 }
 
+/// A frame with two faults: 1 and 2 in either order, 3 and 5, 4 and 5, 4 and 6.
+fn two_faults(random: &mut Random) -> Vec<u8> {
+    match random.below(4) {
+        0 => {
+            let mut sent = vec![0; 384 + random.below(8)];
+            let place = sent.len() - random.below(10);
+            sent.splice(place..place, [ESCAPE, 0x41]);
+            [&[FLAG], sent.as_slice(), &[FLAG]].concat()
+        }
+        1 => vec![FLAG, 3, random.byte() & 0x3f, FLAG],
+        2 => wrong_check(enclose(3, random.byte(), &[])),
+        _ => wrong_check(enclose(2, random.byte(), &[random.byte()])),
+    }
+}
+
+/// The frame with one bit of its check changed.
+fn wrong_check(mut frame: Vec<u8>) -> Vec<u8> {
+    let last = frame.len() - 2;
+    frame[last] ^= 1;
+    frame
+}
+
 /// A packet with any of its parts wrong or missing.
 fn odd_packet(random: &mut Random) -> Vec<u8> {
     let opcode = random.one_of(&[3, 3, 3, 3, 3, 3, 3, 3, 0x0b]);
     let mut packet = vec![random.one_of(&[1, 1, 1, 1, 1, 1, 1, 1, 0]), opcode, 0, random.byte()];
+    if random.below(8) == 0 {
+        item(&mut packet, 0x14, &[]);
+    }
     if random.below(4) != 0 {
         item(&mut packet, 0x01, random.one_of(&NAMES).as_bytes());
     }
@@ -203,7 +235,7 @@ fn odd_packet(random: &mut Random) -> Vec<u8> {
     if random.below(6) == 0 {
         item(&mut packet, 0x01, random.one_of(&NAMES).as_bytes());
     }
-    if random.below(3) == 0 {
+    for _ in 0..random.one_of(&[0, 0, 0, 0, 1, 2]) {
         item(&mut packet, 0x14, &[0][..random.one_of(&[0, 0, 0, 1])]);
     }
     if random.below(8) == 0 {

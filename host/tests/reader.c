@@ -78,6 +78,17 @@ static void long_content(void)
     expect_refused_long("387 bytes, a last escape", 387, "\x7d", ARZNAVIK_BAD_FRAMING);
     expect_refused_long("388 bytes, a bad pair", 388, "\x7d\x41", ARZNAVIK_LONG_CONTENT);
     expect_refused_long("388 bytes, a last escape", 388, "\x7d", ARZNAVIK_LONG_CONTENT);
+    expect_refused_long("388 bytes, a flag between", 388, "\x7e\x41", ARZNAVIK_BAD_FRAMING);
+}
+
+/* Of two faults the one that comes first in byte order is told. */
+static void bad_pair_then_long(void)
+{
+    static char tail[400] = "\x7d\x41";
+    memset(tail + 2, 0x41, 388);
+    expect_refused_long("a bad pair, 388 bytes", 0, tail, ARZNAVIK_BAD_FRAMING);
+    expect_refused_long("386 bytes, a bad pair, 388 bytes", 386, tail, ARZNAVIK_BAD_FRAMING);
+    expect_refused_long("388 bytes, a bad pair, 388 bytes", 388, tail, ARZNAVIK_LONG_CONTENT);
 }
 
 static void short_content(void)
@@ -126,6 +137,7 @@ int main(void)
     flags();
     escapes();
     long_content();
+    bad_pair_then_long();
     short_content();
     bad_check();
     any_type();

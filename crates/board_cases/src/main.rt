@@ -32,7 +32,7 @@ fn run_all(text: &[u8]) {
 }
 
 fn run(line: &[u8]) {
-    let mut bytes = [0u8; 120];
+    let mut bytes = [0u8; 300];
     let count = line::bytes(line, &mut bytes);
     run_case(line, &bytes[..count]);
 }

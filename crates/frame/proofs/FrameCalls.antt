@@ -120,7 +120,7 @@ module _ (kind sequence : ℕ) (payload out : List ℕ) where
       }
 
   module _ (short : length payload ≤ payloadMax) (room : sentLength kind sequence payload ≤ length out) where
-    is-written : writeFrame (length out) kind sequence payload ≡ written (frameOf kind sequence payload)
+    pub is-written : writeFrame (length out) kind sequence payload ≡ written (frameOf kind sequence payload)
     is-written =
         payload-allowed (length out) kind sequence payload short
         ∙ content-room (length out) (contentOf kind sequence payload) (sentLength kind sequence payload) (written-length kind sequence payload) room

@@ -1,7 +1,7 @@
 -- 01, Program and C host: what the C firmware is told. A report is one number, so that a refusal can't be mistaken for a length.
 use mathlib.Core.Path.{_≡_}
 use mathlib.Core.List.{List}
-use Prim.Native.Nat.{ℕ, _+_, _*_}
+use Prim.Native.Nat.{ℕ, _+_, _*_, _/_, _%_}
 use lib.ListN.{length}
 use Rattle.slices.specs.Put.{putAt}
 use Rattle.frame.specs.Content as content
@@ -12,6 +12,13 @@ use Rattle.frame.specs.Answers.{readPayload, writtenBytes}
 -- for a place, are 0
 abbrev pub reportOf : ℕ → ℕ → ℕ → ℕ → ℕ
 reportOf number kind sequence size = number + kind * 0x100 + sequence * 0x10000 + size * 0x1000000
+
+-- the refusal and the length of a report, as the header reads them off it
+abbrev pub refusalIn : ℕ → ℕ
+refusalIn report = report % 0x100
+
+abbrev pub lengthIn : ℕ → ℕ
+lengthIn report = report / 0x1000000 % 0x10000
 
 -- the frame check: type, sequence and the payload's length, or the refusal alone
 abbrev pub readReport : content.Read → ℕ

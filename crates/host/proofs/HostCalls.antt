@@ -1,0 +1,151 @@
+-- What C wrote by one call another reads back, by the contracts of the exported functions (`Learnt`): the reports carry what the frame writer
+-- and the whole-frame reader answer.
+use mathlib.Core.Path.{_≡_, refl, ap, _∙_}
+use mathlib.Core.Bool.{Bool, true, false, cond}
+use mathlib.Core.List.{List, [], _++_}
+use Prim.Native.Nat.{ℕ, _≤_, _/_, _%_}
+use contract.Lifetimes.{Lfts}
+use native.Mathlib.Omega.{arith}
+use lib.Dec.{ltb}
+use lib.ListN.{length, take}
+use Rattle.refusals.specs.Numbers.{shortOutput, longPayload}
+use Rattle.slices.specs.Put.{putAt}
+use Rattle.slices.proofs.PutLaws.{put-told}
+use Rattle.slices.proofs.Lent.{Lent, lent}
+use Rattle.crc.specs.Crc.{crcOf, checkBytes}
+use Rattle.crc.proofs.CrcLaws.{crc-checked}
+use Rattle.frame.specs.Content.{payloadMax, frame}
+use Rattle.frame.specs.Writing as writing
+use Rattle.frame.specs.Writing.{frameOf, writeContent, writeFrame}
+use Rattle.frame.specs.Reading.{readFrame}
+use Rattle.frame.specs.Answers.{readPayload, writtenBytes}
+use Rattle.frame.proofs.FrameTheorems.{written-length, wrote, written-read-back, written-bounded}
+use Rattle.frame.proofs.FrameCalls.{sentLength, is-written}
+use Rattle.host.specs.Report.{refusalIn, lengthIn, reportOf, readReport, writtenReport, ReportsRead, ReportsWritten}
+use Rattle.host.proofs.ReportLaws.{parts-read}
+use Rattle.host.proofs.arznavik_crc.Reads as crc
+use Rattle.host.proofs.arznavik_frame_check.Reads as frame-check
+use Rattle.host.proofs.arznavik_frame_write.Reads as frame-write
+
+-- a call of `arznavik_crc`
+pub record Checks (start : ℕ) (bytes : List ℕ) (answer : ℕ) : Type 0 where
+  pub lifetimes : Lfts 1
+  pub bytes-lent : Lent bytes
+  pub asked : crc.Asked lifetimes (start, (bytes-lent .slice, tt))
+  pub learnt : crc.Learnt lifetimes (start, (bytes-lent .slice, tt)) answer (start, (bytes-lent .slice, tt))
+
+-- a call of `arznavik_frame_write`
+pub record Writes (kind sequence : ℕ) (payload before : List ℕ) (report : ℕ) (after : List ℕ) : Type 0 where
+  pub lifetimes : Lfts 2
+  pub payload-lent : Lent payload
+  pub output-lent : Lent before
+  pub output-left : Lent after
+  pub asked : frame-write.Asked lifetimes (kind, (sequence, (payload-lent .slice, (output-lent .slice, tt))))
+  pub learnt :
+      frame-write.Learnt lifetimes (kind, (sequence, (payload-lent .slice, (output-lent .slice, tt)))) report
+      (kind, (sequence, (payload-lent .slice, (output-left .slice, tt))))
+
+-- a call of `arznavik_frame_check`
+pub record Reads (bytes before : List ℕ) (report : ℕ) (after : List ℕ) : Type 0 where
+  pub lifetimes : Lfts 2
+  pub bytes-lent : Lent bytes
+  pub output-lent : Lent before
+  pub output-left : Lent after
+  pub asked : frame-check.Asked lifetimes (bytes-lent .slice, (output-lent .slice, tt))
+  pub learnt : frame-check.Learnt lifetimes (bytes-lent .slice, (output-lent .slice, tt)) report (bytes-lent .slice, (output-left .slice, tt))
+
+-- what such calls did, by the contracts
+was-checked : {start : ℕ} {bytes : List ℕ} {answer : ℕ} → Checks start bytes answer → answer ≡ crcOf start bytes
+was-checked c = rw (c .bytes-lent .holds) at (c .learnt)
+
+was-written : {kind sequence : ℕ} {payload before : List ℕ} {report : ℕ} {after : List ℕ} → Writes kind sequence payload before report after
+    → ReportsWritten (writeFrame (length before) kind sequence payload) before report after
+was-written w = rw (w .payload-lent .holds, w .output-lent .holds, w .output-left .holds) at (w .learnt)
+
+was-read : {bytes before : List ℕ} {report : ℕ} {after : List ℕ} → Reads bytes before report after
+    → ReportsRead (readFrame (length before) bytes) before report after
+was-read r = rw (r .bytes-lent .holds, r .output-lent .holds, r .output-left .holds) at (r .learnt)
+
+-- THEOREM. The check over bytes with their check behind them is 0, for each start value.
+pub checked-is-zero : (start : ℕ) (bytes : List ℕ) (check answer : ℕ) → Checks start bytes check → Checks start (bytes ++ checkBytes check) answer → answer ≡ 0
+checked-is-zero start bytes check answer first second =
+    was-checked second ∙ ap (λ (c : ℕ). crcOf start (bytes ++ checkBytes c)) (was-checked first) ∙ crc-checked start bytes
+
+-- what the writer does, by its two tests
+abbrev outcome : ℕ → ℕ → List ℕ → Bool → Bool → writing.Written
+outcome kind sequence payload long short =
+    cond long (writing.refused longPayload) (cond short (writing.refused shortOutput) (writing.written (frameOf kind sequence payload)))
+
+-- a report without a refusal is that of a frame that was written
+record Sent (room kind sequence : ℕ) (payload : List ℕ) (n : ℕ) (after : List ℕ) : Type 0 where
+  bytes : List ℕ
+  is : writeFrame room kind sequence payload ≡ writing.written bytes
+  first : take n after ≡ bytes
+
+module _ (kind sequence : ℕ) (payload before : List ℕ) (report : ℕ) (after : List ℕ) (w : Writes kind sequence payload before report after) where
+  sent : refusalIn report ≡ 0 → Sent (length before) kind sequence payload (lengthIn report) after
+  unfolding writeFrame writeContent
+  sent none = by-tests (ltb payloadMax (length payload)) (ltb (length before) (length (frameOf kind sequence payload))) refl (was-written w)
+    where
+      by-tests : (long short : Bool) → writeFrame (length before) kind sequence payload ≡ outcome kind sequence payload long short
+          → ReportsWritten (outcome kind sequence payload long short) before report after
+          → Sent (length before) kind sequence payload (lengthIn report) after
+      by-tests true short e did = absurd (let said = did .reports in omega arith)
+      by-tests false true e did = absurd (let said = did .reports in omega arith)
+      by-tests false false e did =
+          let bytes = frameOf kind sequence payload in
+          let fits = wrote (length before) kind sequence payload bytes e .fits in
+          let few = written-bounded (length before) kind sequence payload bytes e in
+          let parts = parts-read 0 0 0 (length bytes) (omega arith) (omega arith) (omega arith) (omega (arith, few)) in
+          let size : lengthIn report ≡ length bytes = ap lengthIn (did .reports) ∙ parts .of-size in
+          record { bytes = bytes; is = e; first = put-told before after bytes (lengthIn report) (did .frame) size fits }
+
+  -- THEOREM. Behind a call of `arznavik_frame_write` whose report has no refusal, as many bytes of its output as the report says, read by a
+  -- call of `arznavik_frame_check` with an output of at least 383 bytes, are reported with type, sequence and the payload's length, and the
+  -- payload stands at the start of that output.
+  pub call-read-back : (out : List ℕ) (report₁ : ℕ) (out₁ : List ℕ) → refusalIn report ≡ 0 → Reads (take (lengthIn report) after) out report₁ out₁
+      → payloadMax ≤ length out → (report₁ ≡ reportOf 0 kind sequence (length payload)) × (out₁ ≡ putAt out 0 payload)
+  call-read-back out report₁ out₁ none r asked =
+      let s = sent none in
+      let back = written-read-back (length before) kind sequence payload (s .bytes) (length out) (s .is) asked in
+      let is : readFrame (length out) (take (lengthIn report) after) ≡ frame kind sequence payload = rw (s .first) back in
+      let did = was-read r in
+      (did .reports ∙ ap readReport is, did .payload ∙ rw is)
+
+  -- THEOREM. With a payload of at most 383 bytes and room for the frame, the report is its length without a refusal, and the frame stands at
+  -- the start of the output.
+  pub room-enough : length payload ≤ payloadMax → sentLength kind sequence payload ≤ length before
+      → (report ≡ reportOf 0 0 0 (sentLength kind sequence payload)) × (after ≡ putAt before 0 (frameOf kind sequence payload))
+  room-enough short room =
+      let is = is-written kind sequence payload before short room in
+      let did = was-written w in
+      (did .reports ∙ ap writtenReport is ∙ ap (reportOf 0 0 0) (written-length kind sequence payload), did .frame ∙ rw is)
+
+-- Such calls are there for all that can be lent, since the contracts ask nothing.
+pub all-bytes-are-checked : (start : ℕ) (bytes : List ℕ) → Checks start bytes (crcOf start bytes)
+all-bytes-are-checked start bytes = record { lifetimes = ([], tt); bytes-lent = lent bytes; asked = tt; learnt = refl }
+
+pub all-payloads-are-judged : (kind sequence : ℕ) (payload out : List ℕ)
+    → Writes kind sequence payload out (writtenReport (writeFrame (length out) kind sequence payload))
+    (putAt out 0 (writtenBytes (writeFrame (length out) kind sequence payload)))
+all-payloads-are-judged kind sequence payload out =
+    record {
+      lifetimes = ([], ([], tt));
+      payload-lent = lent payload;
+      output-lent = lent out;
+      output-left = lent (putAt out 0 (writtenBytes (writeFrame (length out) kind sequence payload)));
+      asked = tt;
+      learnt = record { reports = refl; frame = refl };
+    }
+
+pub all-bytes-are-read : (bytes out : List ℕ)
+    → Reads bytes out (readReport (readFrame (length out) bytes)) (putAt out 0 (readPayload (readFrame (length out) bytes)))
+all-bytes-are-read bytes out =
+    record {
+      lifetimes = ([], ([], tt));
+      bytes-lent = lent bytes;
+      output-lent = lent out;
+      output-left = lent (putAt out 0 (readPayload (readFrame (length out) bytes)));
+      asked = tt;
+      learnt = record { reports = refl; payload = refl };
+    }

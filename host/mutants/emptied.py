@@ -5,8 +5,9 @@
 
 An emptied contract says only that the answer is itself, and the function's own proof is cut down to that, so
 that what breaks is a caller's proof or a theorem that rests on the contract. It works on a copy of the
-repository under OUT/work and writes OUT/emptied.txt, a line for each function: the function, then the first
-error in its own crate or in the crates above it, lowest first. `nothing` there is a contract that nobody needs.
+repository under OUT/work and writes OUT/emptied.txt, a line for each function: the function, then the file and the
+name that is refused first, in its own crate or in the crates above it, lowest first. `nothing` there is a contract
+that no library needs.
 """
 
 import re
@@ -22,6 +23,8 @@ EMPTY = "    ensures { λ r. ⌜ r ≡ r ⌝ }"
 EQUALITY = "ghost use mathlib.Core.Path.{_≡_};\n"
 # The proof that the answer is as promised: its signature, what it looks into, and its lines.
 RETURNS = re.compile(r"^(returns\S*)( : [^\n]*\n)(?:unfolding [^\n]*\n)?\1 (\w+) =.*?(?=^\S|\Z)", re.M | re.S)
+# Where an error stands, and the name of what is refused.
+PLACE = re.compile(r"(\S+?):\d+:\d+: error: `([^`]+)`")
 
 
 class Public(NamedTuple):
@@ -86,7 +89,8 @@ def broken(copy: Path, order: dict[str, list[str]], function: Public) -> str:
         for crate in [function.crate, *above]:
             verdict, error = check(copy, crate)
             if verdict != "passed":
-                return error
+                place = PLACE.match(error)
+                return f"{place.group(1)} {place.group(2)}" if place else error
         return "nothing"
     finally:
         for path, text in kept.items():

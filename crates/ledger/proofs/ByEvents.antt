@@ -78,7 +78,7 @@ frames-append l (byte b ∷ xs) ys = by-turn (turn (l .run) b) (λ m. frames-app
         ap (λ (fs : List Frame). frameOf run ∷ fs) (rw empty at (rest m))
 
 -- the ledger's last sequence is that of the last data frame that was closed
-repeats-last : (last : Option ℕ) (sequence : ℕ) → repeated last sequence ≡ true → last ≡ some sequence
+pub repeats-last : (last : Option ℕ) (sequence : ℕ) → repeated last sequence ≡ true → last ≡ some sequence
 repeats-last none sequence e = let z : _≡_ {A = ℕ} 0 1 = cc in absurd (omega arith)
 repeats-last (some before) sequence e = cases (eqb sequence 0) (eqb sequence before) refl e
   where
@@ -87,7 +87,7 @@ repeats-last (some before) sequence e = cases (eqb sequence 0) (eqb sequence bef
     cases false true f e = ap some (sym (eqb-true sequence before f))
     cases false false f e = let z : _≡_ {A = ℕ} 0 1 = cc in absurd (omega arith)
 
-read-sequence : (l : Ledger) (sequence : ℕ) (v : Verdict) → calls.afterReading (calls.afterNew l sequence) v .sequence ≡ some sequence
+pub read-sequence : (l : Ledger) (sequence : ℕ) (v : Verdict) → calls.afterReading (calls.afterNew l sequence) v .sequence ≡ some sequence
 read-sequence l sequence (reading.refused k) = refl
 read-sequence l sequence reading.endMark = refl
 read-sequence l sequence (reading.update name value) = refl

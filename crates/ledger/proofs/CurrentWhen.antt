@@ -21,6 +21,8 @@ use Rattle.display.specs.declared.Display.{Display}
 use Rattle.ledger.specs.Ledger.{rowOf, current, silent}
 use Rattle.ledger.specs.Answers.{WatchList, namesIn, Call}
 use Rattle.ledger.specs.Shown.{asState, Left}
+use Rattle.ledger.specs.History.{history}
+use Rattle.ledger.specs.BoardEvents.{BoardEvent, boardEventsIn}
 use Rattle.ledger.specs.LastAccepted.{allAccepted, LastAccepted, rowAt}
 use Rattle.ledger.proofs.Chain.{Begins, Chain}
 use Rattle.ledger.proofs.EveryList.{agreeing}
@@ -33,35 +35,39 @@ shown-as true value age = refl
 shown-as false value age = refl
 
 -- an update of 30 ticks and more
-pub record LongAgo (names : List (List ℕ)) (name : List ℕ) (left : List Left) : Type 0 where
+pub record LongAgo (names : List (List ℕ)) (name : List ℕ) (events : List BoardEvent) : Type 0 where
   pub value : ℤ
   pub ticks : ℕ
-  pub last : LastAccepted names name value ticks left
+  pub last : LastAccepted names name value ticks events
   pub old : 30 ≤ ticks
 
 -- After every list of calls, at the place of a watched name in the watch list:
 module _ (names : List (List ℕ)) (w : WatchList) (listed : namesIn w ≡ some names) (d : Display) (begins : Begins w d)
     (cs : List Call) (left : List Left) (end : Display) (chain : Chain d cs left end)
     (name : List ℕ) (place : ℕ) (stands : placeOf name names ≡ some place) where
+  -- what went to the board in the history of the calls
+  abbrev pub events : List BoardEvent
+  events = boardEventsIn (history cs left)
+
   abbrev unused : List Row
-  unused = replicate (rowCount - length (map (rowAfter names left) names)) (freshRow [])
+  unused = replicate (rowCount - length (map (rowAfter names events) names)) (freshRow [])
 
-  placed : RowAt (rowAfter names left) unused name names 0 place
-  placed = row-at (rowAfter names left) unused name names 0 place stands (agreeing listed begins chain .fit)
+  placed : RowAt (rowAfter names events) unused name names 0 place
+  placed = row-at (rowAfter names events) unused name names 0 place stands (agreeing listed begins chain .fit)
 
-  row-is : rowAt (end .board) place ≡ rowShowing (rowAfter names left name)
+  row-is : rowAt (end .board) place ≡ rowShowing (rowAfter names events name)
   row-is =
       let same : place - 0 ≡ place = omega arith in
       ap (λ (b : Board). rowAt b place) (board-after names cs left end (agreeing listed begins chain)) ∙ rw same at (placed .row)
 
-  state-is : rowAt (end .board) place .state ≡ asState (rowOf (lastUpdate names name left none))
+  state-is : rowAt (end .board) place .state ≡ asState (rowOf (lastUpdate names name events none))
   state-is = ap (λ (r : Row). r .state) row-is
 
-  by-last : (value : ℤ) (ticks : ℕ) → LastAccepted names name value ticks left → rowAt (end .board) place .state ≡ cond (ltb ticks 30) (Current value ticks) Silent
-  by-last value ticks last = state-is ∙ rw (last-is names name value ticks left last) (shown-as (ltb ticks 30) value ticks)
+  by-last : (value : ℤ) (ticks : ℕ) → LastAccepted names name value ticks events → rowAt (end .board) place .state ≡ cond (ltb ticks 30) (Current value ticks) Silent
+  by-last value ticks last = state-is ∙ rw (last-is names name value ticks events last) (shown-as (ltb ticks 30) value ticks)
 
-  by-none : allAccepted names name left ≡ [] → rowAt (end .board) place .state ≡ Never
-  by-none quiet = state-is ∙ rw (none-is names name left quiet)
+  by-none : allAccepted names name events ≡ [] → rowAt (end .board) place .state ≡ Never
+  by-none quiet = state-is ∙ rw (none-is names name events quiet)
 
   -- THEOREM. There stands the row of that name.
   pub row-named : rowName (rowAt (end .board) place) ≡ name
@@ -69,42 +75,42 @@ module _ (names : List (List ℕ)) (w : WatchList) (listed : namesIn w ≡ some 
 
   -- THEOREM. The row is current, with a value and an age, exactly when the last update accepted for the name had that value and closed that
   -- many ticks ago, fewer than 30.
-  pub current-exactly-when : (value : ℤ) (age : ℕ) → (rowAt (end .board) place .state ≡ Current value age) ↔ (LastAccepted names name value age left × (age < 30))
-  current-exactly-when value age = (only (found names name left), λ l. by-last value age (l .0) ∙ rw (lt-ltb age 30 (l .1)))
+  pub current-exactly-when : (value : ℤ) (age : ℕ) → (rowAt (end .board) place .state ≡ Current value age) ↔ (LastAccepted names name value age events × (age < 30))
+  current-exactly-when value age = (only (found names name events), λ l. by-last value age (l .0) ∙ rw (lt-ltb age 30 (l .1)))
     where
-      by-age : (f : Found names name left) (t : Bool) → ltb (f .ticks) 30 ≡ t → cond t (Current (f .value) (f .ticks)) Silent ≡ Current value age
-          → LastAccepted names name value age left × (age < 30)
+      by-age : (f : Found names name events) (t : Bool) → ltb (f .ticks) 30 ≡ t → cond t (Current (f .value) (f .ticks)) Silent ≡ Current value age
+          → LastAccepted names name value age events × (age < 30)
       by-age f true young e =
           let of-value : f .value ≡ value = cc in
           let of-age : f .ticks ≡ age = cc in
           (rw (← of-value, ← of-age) (f .last), rw (← of-age) (ltb-true (f .ticks) 30 young))
       by-age f false young e = let z : _≡_ {A = ℕ} 0 1 = cc in absurd (omega arith)
 
-      only : (Found names name left ⊎ (allAccepted names name left ≡ [])) → rowAt (end .board) place .state ≡ Current value age
-          → LastAccepted names name value age left × (age < 30)
+      only : (Found names name events ⊎ (allAccepted names name events ≡ [])) → rowAt (end .board) place .state ≡ Current value age
+          → LastAccepted names name value age events × (age < 30)
       only (inl f) e = by-age f (ltb (f .ticks) 30) refl (sym (by-last (f .value) (f .ticks) (f .last)) ∙ e)
       only (inr quiet) e = let never = sym (by-none quiet) ∙ e in let z : _≡_ {A = ℕ} 0 1 = cc in absurd (omega arith)
 
   -- THEOREM. It is silent exactly when that update closed 30 or more ticks ago.
-  pub silent-exactly-when : (rowAt (end .board) place .state ≡ Silent) ↔ LongAgo names name left
-  silent-exactly-when = (only (found names name left), λ l. by-last (l .value) (l .ticks) (l .last) ∙ rw (le-ltb (l .ticks) 30 (l .old)))
+  pub silent-exactly-when : (rowAt (end .board) place .state ≡ Silent) ↔ LongAgo names name events
+  silent-exactly-when = (only (found names name events), λ l. by-last (l .value) (l .ticks) (l .last) ∙ rw (le-ltb (l .ticks) 30 (l .old)))
     where
-      by-age : (f : Found names name left) (t : Bool) → ltb (f .ticks) 30 ≡ t → cond t (Current (f .value) (f .ticks)) Silent ≡ Silent → LongAgo names name left
+      by-age : (f : Found names name events) (t : Bool) → ltb (f .ticks) 30 ≡ t → cond t (Current (f .value) (f .ticks)) Silent ≡ Silent → LongAgo names name events
       by-age f true young e = let z : _≡_ {A = ℕ} 0 1 = cc in absurd (omega arith)
       by-age f false young e = record { value = f .value; ticks = f .ticks; last = f .last; old = ltb-false (f .ticks) 30 young }
 
-      only : (Found names name left ⊎ (allAccepted names name left ≡ [])) → rowAt (end .board) place .state ≡ Silent → LongAgo names name left
+      only : (Found names name events ⊎ (allAccepted names name events ≡ [])) → rowAt (end .board) place .state ≡ Silent → LongAgo names name events
       only (inl f) e = by-age f (ltb (f .ticks) 30) refl (sym (by-last (f .value) (f .ticks) (f .last)) ∙ e)
       only (inr quiet) e = let never = sym (by-none quiet) ∙ e in let z : _≡_ {A = ℕ} 0 1 = cc in absurd (omega arith)
 
   -- THEOREM. It is never exactly when no update was accepted for the name.
-  pub never-exactly-when : (rowAt (end .board) place .state ≡ Never) ↔ (allAccepted names name left ≡ [])
-  never-exactly-when = (only (found names name left), by-none)
+  pub never-exactly-when : (rowAt (end .board) place .state ≡ Never) ↔ (allAccepted names name events ≡ [])
+  never-exactly-when = (only (found names name events), by-none)
     where
-      by-age : (f : Found names name left) (t : Bool) → cond t (Current (f .value) (f .ticks)) Silent ≡ Never → allAccepted names name left ≡ []
+      by-age : (f : Found names name events) (t : Bool) → cond t (Current (f .value) (f .ticks)) Silent ≡ Never → allAccepted names name events ≡ []
       by-age f true e = let z : _≡_ {A = ℕ} 0 1 = cc in absurd (omega arith)
       by-age f false e = let z : _≡_ {A = ℕ} 0 1 = cc in absurd (omega arith)
 
-      only : (Found names name left ⊎ (allAccepted names name left ≡ [])) → rowAt (end .board) place .state ≡ Never → allAccepted names name left ≡ []
+      only : (Found names name events ⊎ (allAccepted names name events ≡ [])) → rowAt (end .board) place .state ≡ Never → allAccepted names name events ≡ []
       only (inl f) e = by-age f (ltb (f .ticks) 30) (sym (by-last (f .value) (f .ticks) (f .last)) ∙ e)
       only (inr quiet) e = quiet

@@ -11,6 +11,7 @@ pub mod HistoryLaws
 pub mod HandedLaws
 pub mod ToldLaws
 pub mod SameHistory
+pub mod HandedUp
 pub mod ClosedCalls
 pub mod AtOnce
 pub mod UpdateLaws

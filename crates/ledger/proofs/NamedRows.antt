@@ -15,27 +15,32 @@ use Rattle.rows.specs.Rows.{rowName, freshRow}
 use Rattle.rows.specs.declared.Row.{Row}
 use Rattle.board.proofs.WatchLaws.{Fits, fresh-name}
 use Rattle.display.specs.declared.Display.{Display}
-use Rattle.ledger.specs.Ledger.{Entry, unheard, start, rowOf}
+use Rattle.ledger.specs.Ledger.{Ledger, Entry, unheard, start, rowOf}
 use Rattle.ledger.specs.Answers.{Call}
 use Rattle.ledger.specs.Shown.{asState, asEntry, Left}
+use Rattle.ledger.specs.History.{history}
+use Rattle.ledger.specs.BoardEvents.{BoardEvent, boardEventsIn}
 use Rattle.ledger.proofs.EveryList.{Agreeing, fresh-named}
-use Rattle.ledger.proofs.UpdateLaws.{lastUpdate, afterCalls, after-followed}
+use Rattle.ledger.proofs.SameHistory.{after-by}
+use Rattle.ledger.proofs.UpdateLaws.{lastUpdate, afterEvents, history-followed}
 
--- what the row of a name shows after some calls
-abbrev pub rowAfter : List (List ℕ) → List Left → List ℕ → shown.Entry
-rowAfter names left name = record { name = name; state = asState (rowOf (lastUpdate names name left none)) }
+-- what the row of a name shows after some events
+abbrev pub rowAfter : List (List ℕ) → List BoardEvent → List ℕ → shown.Entry
+rowAfter names events name = record { name = name; state = asState (rowOf (lastUpdate names name events none)) }
 
-rows-after : (all names : List (List ℕ)) (left : List Left) → map asEntry (map (afterCalls all left) (map unheard names)) ≡ map (rowAfter all left) names
-rows-after all [] left = refl
-rows-after all (n ∷ names) left = ap (λ (l : List shown.Entry). rowAfter all left n ∷ l) (rows-after all names left)
+rows-after : (all names : List (List ℕ)) (events : List BoardEvent) → map asEntry (map (afterEvents all events) (map unheard names)) ≡ map (rowAfter all events) names
+rows-after all [] events = refl
+rows-after all (n ∷ names) events = ap (λ (l : List shown.Entry). rowAfter all events n ∷ l) (rows-after all names events)
 
 pub board-after : (names : List (List ℕ)) (cs : List Call) (left : List Left) (end : Display) → Agreeing names cs left end
-    → end .board ≡ boardShowing (map (rowAfter names left) names)
+    → end .board ≡ boardShowing (map (rowAfter names (boardEventsIn (history cs left))) names)
 board-after names cs left end a =
-    let followed = after-followed names (start names) cs (fresh-named names) (a .good .once) in
+    let events = history cs left in
+    let followed = history-followed names (start names) events (fresh-named names) (a .good .once) in
     a .all .agrees .shows .showing
-    ∙ ap (λ (es : List Entry). boardShowing (map asEntry es)) (rw (← a .all .gives) at followed)
-    ∙ ap boardShowing (rows-after names names left)
+    ∙ ap (λ (l : Ledger). boardShowing (map asEntry (l .entries))) (after-by names cs left (a .all .gives))
+    ∙ ap (λ (es : List Entry). boardShowing (map asEntry es)) followed
+    ∙ ap boardShowing (rows-after names names (boardEventsIn events))
 
 -- the row at the place of a name among the names, when they are counted from a on
 pub record RowAt (f : List ℕ → shown.Entry) (rest : List Row) (name : List ℕ) (names : List (List ℕ)) (a place : ℕ) : Type 0 where

@@ -36,7 +36,7 @@ module _ (names : List (List ℕ)) where
   next-given l c more e = cc
 
   -- what a list of calls told, by its history
-  told-by : (cs : List Call) (left : List Left) → left ≡ map (asLeft names) (given (start names) cs)
+  pub told-by : (cs : List Call) (left : List Left) → left ≡ map (asLeft names) (given (start names) cs)
       → toldOut names (start names) cs ≡ toldInHistory (start names) (history cs left)
   told-by cs left gives = rw gives (told-history names (start names) cs)
 

@@ -22,7 +22,7 @@ unfoldable pub handedWith : List Answer → List Handed
 handedWith [] = []
 handedWith (a ∷ more) = handedBy a ++ handedWith more
 
-handed-append : (xs ys : List Answer) → handedWith (xs ++ ys) ≡ handedWith xs ++ handedWith ys
+pub handed-append : (xs ys : List Answer) → handedWith (xs ++ ys) ≡ handedWith xs ++ handedWith ys
 unfolding handedWith
 handed-append [] ys = refl
 handed-append (x ∷ xs) ys = ap (λ (r : List Handed). handedBy x ++ r) (handed-append xs ys) ∙ sym (append-assoc (handedBy x) (handedWith xs) (handedWith ys))

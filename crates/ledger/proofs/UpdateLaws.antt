@@ -1,14 +1,12 @@
--- What the ledger holds of a name after some calls is the value of its last accepted update and the ticks since, read off what the calls
--- left: each call that accepts an update of the name starts anew, and each tick is one more.
-use mathlib.Core.Path.{_≡_, refl, sym, ap, _∙_}
-use mathlib.Core.Bool.{Bool, true, false, cond, not, _||_}
-use mathlib.Core.List.{List, [], _∷_, map}
+-- What the ledger holds of a name after a history is the value of its last accepted update and the ticks since, read off what went to the
+-- board: each packet that is accepted as an update of the name starts anew, and each tick is one more.
+use mathlib.Core.Path.{_≡_, refl, sym, ap, ap₂, _∙_}
+use mathlib.Core.Bool.{Bool, true, false, cond, not}
+use mathlib.Core.List.{List, [], _∷_, _++_, map}
 use mathlib.Core.Option.{Option, some, none}
 use Prim.Native.Nat.{ℕ, zero, suc}
 use native.Mathlib.Omega.{arith}
-use lib.Dec.{ltb}
 use lib.IntN.{ℤ}
-use lib.ListN.{length}
 use borrow.Author.Tests.{not-true}
 use Rattle.slices.specs.Same.{sameBytes}
 use Rattle.slices.proofs.SameLaws.{same-equal}
@@ -17,44 +15,41 @@ use Rattle.rows.specs.Names.{placeFrom, isSome, isIn}
 use Rattle.board.specs.Reading as reading
 use Rattle.board.specs.Reading.{Verdict, readingOf}
 use Rattle.board.specs.WatchList.{distinct}
-use Rattle.ledger.specs.Ledger.{Update, Entry, Ledger, nameOf, updated, older}
+use Rattle.ledger.specs.Ledger.{Update, Entry, Ledger, nameOf, updated, older, olderEntry}
 use Rattle.ledger.specs.Frames as frames
-use Rattle.ledger.specs.Frames.{Frame, Taken, taken, frameOf}
-use Rattle.ledger.specs.Answers as answers
+use Rattle.ledger.specs.Frames.{Turn, goes-on, closes, turn, Frame, frameOf}
 use Rattle.ledger.specs.Calls as calls
-use Rattle.ledger.specs.Answers.{Call, Given}
-use Rattle.ledger.specs.Calls.{repeated, closed, withRun, pieceStep, shortStep, step, given, after}
-use Rattle.ledger.specs.Shown.{Left, asLeft}
-use Rattle.ledger.specs.History.{Handed}
-use Rattle.ledger.specs.LastAccepted.{valueFor, acceptedIn, acceptedFor, tickOf}
-use Rattle.ledger.proofs.HandedLaws.{handedIn, step-handed}
+use Rattle.ledger.specs.Calls.{repeated, closed, withRun}
+use Rattle.ledger.specs.History.{Event, byte, minute}
+use Rattle.ledger.specs.BoardEvents.{BoardEvent, tick, packet, behindFrame, behindByte, boardEventsFrom}
+use Rattle.ledger.specs.LastAccepted.{valueFor, acceptedFor, tickOf}
+use Rattle.ledger.proofs.StepAgreement.{run-kept}
+use Rattle.ledger.proofs.ByEvents.{atTurn, happens, afterHistory, repeats-last, read-sequence}
 
 -- so many ticks on
 abbrev pub aged : ℕ → Option Update → Option Update
 aged zero last = last
 aged (suc n) last = older (aged n last)
 
--- a name's last update after a call, by the value that the call accepted and its ticks
+-- a name's last update after an event, by the value that was accepted and the ticks
 abbrev pub renewed : Option ℤ → ℕ → Option Update → Option Update
 renewed none ticks last = aged ticks last
 renewed (some value) ticks last = some (record { value = value; ticks = 0 })
 
--- after some calls, by what they left
-unfoldable pub lastUpdate : List (List ℕ) → List ℕ → List Left → Option Update → Option Update
+-- after some events
+unfoldable pub lastUpdate : List (List ℕ) → List ℕ → List BoardEvent → Option Update → Option Update
 lastUpdate names name [] last = last
-lastUpdate names name (left ∷ more) last = lastUpdate names name more (renewed (acceptedFor names name left) (tickOf left) last)
+lastUpdate names name (event ∷ events) last = lastUpdate names name events (renewed (acceptedFor names name event) (tickOf event) last)
 
-module _ (names : List (List ℕ)) where
-  -- an entry after a call, and after some
-  abbrev afterCall : Left → Entry → Entry
-  afterCall left e = record { name = e .name; last = renewed (acceptedFor names (e .name) left) (tickOf left) (e .last) }
+pub split-last : (names : List (List ℕ)) (name : List ℕ) (xs ys : List BoardEvent) (last : Option Update)
+    → lastUpdate names name (xs ++ ys) last ≡ lastUpdate names name ys (lastUpdate names name xs last)
+unfolding lastUpdate
+split-last names name [] ys last = refl
+split-last names name (x ∷ xs) ys last = split-last names name xs ys (renewed (acceptedFor names name x) (tickOf x) last)
 
-  abbrev pub afterCalls : List Left → Entry → Entry
-  afterCalls left e = record { name = e .name; last = lastUpdate names (e .name) left (e .last) }
-
-  -- by what was handed out, where no tick came
-  abbrev afterHanded : List Handed → Entry → Entry
-  afterHanded handed e = record { name = e .name; last = renewed (acceptedIn names (e .name) handed) 0 (e .last) }
+-- an entry after some events
+abbrev pub afterEvents : List (List ℕ) → List BoardEvent → Entry → Entry
+afterEvents names events e = record { name = e .name; last = lastUpdate names (e .name) events (e .last) }
 
 kept-all : (es : List Entry) → map (λ (e : Entry). record { name = e .name; last = e .last }) es ≡ es
 kept-all [] = refl
@@ -103,67 +98,79 @@ read-followed l reading.endMark once = sym (kept-all (l .entries))
 read-followed l (reading.update name value) once = update-followed name value (l .entries) once
 
 module _ (names : List (List ℕ)) where
-  frame-followed : (l : Ledger) (f : Frame) (n : ℕ) (reply packet : List ℕ) → map nameOf (l .entries) ≡ names → distinct names ≡ true
-      → closed l f .ledger .entries ≡ map (afterHanded names (handedIn (answers.took n (closed l f .answer) reply packet))) (l .entries)
-  frame-followed l (frames.refused k) n reply packet named once = sym (kept-all (l .entries))
-  frame-followed l (frames.acknowledgement sequence) n reply packet named once = sym (kept-all (l .entries))
-  frame-followed l (frames.good sequence payload) n reply packet named once = cases (repeated (l .sequence) sequence)
-    where
-      cases : (t : Bool)
-          → cond t (calls.repeatedFrame l sequence) (calls.newFrame l sequence payload) .ledger .entries
-          ≡ map (afterHanded names (handedIn (answers.took n (cond t (calls.repeatedFrame l sequence) (calls.newFrame l sequence payload) .answer) reply packet))) (l .entries)
-      cases true = sym (kept-all (l .entries))
-      cases false =
-          read-followed (calls.afterNew l sequence) (calls.readingBy l payload) (ap distinct named ∙ once)
-          ∙ ap (λ (ns : List (List ℕ)). map (onReading (readingOf ns payload)) (l .entries)) named
+  followed-on : (xs ys : List BoardEvent) (es : List Entry) → map (afterEvents names ys) (map (afterEvents names xs) es) ≡ map (afterEvents names (xs ++ ys)) es
+  followed-on xs ys [] = refl
+  followed-on xs ys (e ∷ es) =
+      ap₂ (λ (u : Option Update) (l : List Entry). record { name = e .name; last = u } ∷ l) (sym (split-last names (e .name) xs ys (e .last)))
+      (followed-on xs ys es)
 
-  -- what a call does to the entries, by what it hands out and its ticks
-  abbrev followedBy : Given → Entry → Entry
-  followedBy g e = record { name = e .name; last = renewed (acceptedIn names (e .name) (handedIn g)) (tickOf (asLeft names g)) (e .last) }
+  names-followed : (events : List BoardEvent) (es : List Entry) → map nameOf (map (afterEvents names events) es) ≡ map nameOf es
+  names-followed events [] = refl
+  names-followed events (e ∷ es) = ap (λ (l : List (List ℕ)). e .name ∷ l) (names-followed events es)
 
-  step-given : (l : Ledger) (c : Call) → map nameOf (l .entries) ≡ names → distinct names ≡ true
-      → step l c .ledger .entries ≡ map (followedBy (step l c .given)) (l .entries)
-  unfolding step
-  step-given l (answers.piece bytes reply packet) named once = by-room (ltb (length reply) 9 || ltb (length packet) 383)
-    where
-      by-frame : (t : Taken) (frame : Option (List ℕ)) → t .frame ≡ frame
-          → pieceStep l t reply packet .ledger .entries ≡ map (followedBy (pieceStep l t reply packet .given)) (l .entries)
-      by-frame t none e = rw e (sym (kept-all (l .entries)))
-      by-frame t (some run) e = rw e (frame-followed (withRun l (t .run)) (frameOf run) (t .count) reply packet named once)
+  -- what one frame or one minute sends to the board, and what that does to the entries
+  record Followed (l : Ledger) (next : Ledger) (events : List BoardEvent) : Type 0 where
+    entries : next .entries ≡ map (afterEvents names events) (l .entries)
+    named : map nameOf (next .entries) ≡ names
 
-      by-room : (t : Bool)
-          → cond t (shortStep l reply packet) (pieceStep l (taken (l .run) bytes 0) reply packet) .ledger .entries
-          ≡ map (followedBy (cond t (shortStep l reply packet) (pieceStep l (taken (l .run) bytes 0) reply packet) .given)) (l .entries)
-      by-room true = sym (kept-all (l .entries))
-      by-room false = by-frame (taken (l .run) bytes 0) (taken (l .run) bytes 0 .frame) refl
-  step-given l answers.tick named once = refl
+  followed : (l next : Ledger) (events : List BoardEvent) → map nameOf (l .entries) ≡ names → next .entries ≡ map (afterEvents names events) (l .entries)
+      → Followed l next events
+  followed l next events named is = record { entries = is; named = ap (map nameOf) is ∙ names-followed events (l .entries) ∙ named }
 
-  -- and so by what it left
-  step-followed : (l : Ledger) (c : Call) → map nameOf (l .entries) ≡ names → distinct names ≡ true
-      → step l c .ledger .entries ≡ map (afterCall names (asLeft names (step l c .given))) (l .entries)
-  step-followed l c named once =
-      step-given l c named once
-      ∙ ap (λ (handed : List Handed). map (λ (e : Entry). record { name = e .name; last = renewed (acceptedIn names (e .name) handed) (tickOf (asLeft names (step l c .given))) (e .last) }) (l .entries))
-      (sym (step-handed names l c))
+  record FrameFollowed (l : Ledger) (f : Frame) : Type 0 where
+    events : List BoardEvent
+    sends : (rest : Option ℕ → List BoardEvent) → behindFrame f (l .sequence) rest ≡ events ++ rest (closed l f .ledger .sequence)
+    does : Followed l (closed l f .ledger) events
 
-  names-followed : (left : Left) (es : List Entry) → map nameOf (map (afterCall names left) es) ≡ map nameOf es
-  names-followed left [] = refl
-  names-followed left (e ∷ es) = ap (λ (l : List (List ℕ)). e .name ∷ l) (names-followed left es)
-
-  followed-on : (left : Left) (more : List Left) (es : List Entry)
-      → map (afterCalls names more) (map (afterCall names left) es) ≡ map (afterCalls names (left ∷ more)) es
+  frame-followed : (l : Ledger) (f : Frame) → map nameOf (l .entries) ≡ names → distinct names ≡ true → FrameFollowed l f
   unfolding lastUpdate
-  followed-on left more [] = refl
-  followed-on left more (e ∷ es) = ap (λ (l : List Entry). afterCalls names (left ∷ more) e ∷ l) (followed-on left more es)
+  frame-followed l (frames.refused k) named once = record { events = []; sends = λ rest. refl; does = followed l _ [] named (sym (kept-all (l .entries))) }
+  frame-followed l (frames.acknowledgement sequence) named once =
+      record { events = []; sends = λ rest. refl; does = followed l _ [] named (sym (kept-all (l .entries))) }
+  frame-followed l (frames.good sequence payload) named once = by-last (repeated (l .sequence) sequence) refl
+    where
+      by-last : (t : Bool) → repeated (l .sequence) sequence ≡ t → FrameFollowed l (frames.good sequence payload)
+      by-last true e =
+          let same = repeats-last (l .sequence) sequence e in
+          record {
+            events = [];
+            sends = λ rest. rw e (ap rest (sym same));
+            does = rw e (followed l _ [] named (sym (kept-all (l .entries))));
+          }
+      by-last false e =
+          let v = calls.readingBy l payload in
+          let read =
+          read-followed (calls.afterNew l sequence) v (ap distinct named ∙ once)
+          ∙ ap (λ (ns : List (List ℕ)). map (onReading (readingOf ns payload)) (l .entries)) named in
+          record {
+            events = packet payload ∷ [];
+            sends = λ rest. rw e (ap (λ (o : Option ℕ). packet payload ∷ rest o) (sym (read-sequence l sequence v)));
+            does = rw e (followed l _ (packet payload ∷ []) named read);
+          }
 
-  pub after-followed : (l : Ledger) (cs : List Call) → map nameOf (l .entries) ≡ names → distinct names ≡ true
-      → after l cs .entries ≡ map (afterCalls names (map (asLeft names) (given l cs))) (l .entries)
-  unfolding after given lastUpdate
-  after-followed l [] named once = sym (kept-all (l .entries))
-  after-followed l (c ∷ cs) named once =
-      let left = asLeft names (step l c .given) in
-      let first = step-followed l c named once in
-      let same = ap (map nameOf) first ∙ names-followed left (l .entries) ∙ named in
-      after-followed (step l c .ledger) cs same once
-      ∙ ap (map (afterCalls names (map (asLeft names) (given (step l c .ledger) cs)))) first
-      ∙ followed-on left (map (asLeft names) (given (step l c .ledger) cs)) (l .entries)
+  -- the entries after a history
+  pub history-followed : (l : Ledger) (es : List Event) → map nameOf (l .entries) ≡ names → distinct names ≡ true
+      → afterHistory l es .entries ≡ map (afterEvents names (boardEventsFrom (l .run) (l .sequence) es)) (l .entries)
+  unfolding afterHistory boardEventsFrom lastUpdate
+  history-followed l [] named once = sym (kept-all (l .entries))
+  history-followed l (minute ∷ es) named once =
+      let next = happens l minute .ledger in
+      let first = followed l next (tick ∷ []) named refl in
+      history-followed next es (first .named) once ∙ followed-on (tick ∷ []) (boardEventsFrom (l .run) (l .sequence) es) (l .entries)
+  history-followed l (byte b ∷ es) named once = by-turn (turn (l .run) b) (λ m shown. history-followed m es shown once)
+    where
+      by-turn : (t : Turn)
+          → ((m : Ledger) → map nameOf (m .entries) ≡ names → afterHistory m es .entries ≡ map (afterEvents names (boardEventsFrom (m .run) (m .sequence) es)) (m .entries))
+          → afterHistory (atTurn l t .ledger) es .entries
+          ≡ map (afterEvents names (behindByte t (l .sequence) (λ run last. boardEventsFrom run last es))) (l .entries)
+      by-turn (goes-on run) rest = rest (withRun l run) named
+      by-turn (closes run) rest =
+          let here = withRun l (some []) in
+          let m = closed here (frameOf run) .ledger in
+          let f = frame-followed here (frameOf run) named once in
+          let empty : m .run ≡ some [] = run-kept here (frameOf run) in
+          let behind = boardEventsFrom (some []) (m .sequence) es in
+          rw empty at (rest m (f .does .named))
+          ∙ ap (map (afterEvents names behind)) (f .does .entries)
+          ∙ followed-on (f .events) behind (l .entries)
+          ∙ ap (λ (bs : List BoardEvent). map (afterEvents names bs) (l .entries)) (sym (f .sends (λ last. boardEventsFrom (some []) last es)))

@@ -49,7 +49,16 @@ unfoldable pub allHanded : List Left → List Handed
 allHanded [] = []
 allHanded (left ∷ more) = handedLeft left ++ allHanded more
 
--- the answers that do not hang on where a piece was cut: all but "nothing", and refusal 7, after which nothing was taken
+-- the packets among them
+abbrev pub withPacket : Option (List ℕ) → List (List ℕ) → List (List ℕ)
+withPacket none packets = packets
+withPacket (some packet) packets = packet ∷ packets
+
+unfoldable pub handedUp : List Handed → List (List ℕ)
+handedUp [] = []
+handedUp (handed ∷ more) = withPacket (handed .packet) (handedUp more)
+
+-- the answers that do not depend on where a piece was cut: all but "nothing", and refusal 7, after which nothing was taken
 abbrev pub toldAs : Answer → List Answer
 toldAs Nothing = []
 toldAs (Refused n) = cond (eqb n shortOutput) [] (Refused n ∷ [])

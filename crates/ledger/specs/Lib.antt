@@ -5,4 +5,5 @@ pub mod Calls
 pub mod Shown
 pub mod History
 pub mod ClosedFrames
+pub mod BoardEvents
 pub mod LastAccepted

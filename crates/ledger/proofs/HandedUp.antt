@@ -1,0 +1,90 @@
+-- The packets that are handed out are those that went to the board: a data frame that is closed and not repeated at once is answered as new,
+-- with its payload, and no other frame is.
+use mathlib.Core.Path.{_≡_, refl, sym, ap, ap₂, _∙_}
+use mathlib.Core.Bool.{Bool, true, false, cond}
+use mathlib.Core.List.{List, [], _∷_, _++_}
+use mathlib.Core.Option.{Option, some, none}
+use Prim.Native.Nat.{ℕ}
+use lib.Dec.{eqb}
+use Rattle.refusals.specs.Numbers.{shortOutput}
+use Rattle.display.specs.declared.Display.{Display}
+use Rattle.ledger.specs.Ledger.{Ledger, start}
+use Rattle.ledger.specs.Frames as frames
+use Rattle.ledger.specs.Frames.{Turn, goes-on, closes, turn, Frame, frameOf}
+use Rattle.ledger.specs.Answers as answers
+use Rattle.ledger.specs.Answers.{WatchList, namesIn, Call, Answer}
+use Rattle.ledger.specs.Calls as calls
+use Rattle.ledger.specs.Calls.{repeated, closed, withRun}
+use Rattle.ledger.specs.Shown.{Left}
+use Rattle.ledger.specs.History.{Event, byte, minute, history, Handed, withPacket, handedUp, allHanded}
+use Rattle.ledger.specs.BoardEvents.{BoardEvent, packet, behindFrame, behindByte, boardEventsFrom, boardEventsIn, packetsIn}
+use Rattle.ledger.proofs.StepAgreement.{run-kept}
+use Rattle.ledger.proofs.Chain.{Begins, Chain}
+use Rattle.ledger.proofs.EveryList.{agreeing}
+use Rattle.ledger.proofs.ByEvents.{toldBy, atTurn, happens, toldInHistory, repeats-last, read-sequence}
+use Rattle.ledger.proofs.ToldLaws.{handedWith, handed-append, all-handed}
+use Rattle.ledger.proofs.SameHistory.{told-by}
+
+up-append : (xs ys : List Handed) → handedUp (xs ++ ys) ≡ handedUp xs ++ handedUp ys
+unfolding handedUp
+up-append [] ys = refl
+up-append (x ∷ xs) ys = by-packet (x .packet) (up-append xs ys)
+  where
+    by-packet : (o : Option (List ℕ)) → handedUp (xs ++ ys) ≡ handedUp xs ++ handedUp ys
+        → withPacket o (handedUp (xs ++ ys)) ≡ withPacket o (handedUp xs) ++ handedUp ys
+    by-packet none rest = rest
+    by-packet (some p) rest = ap (λ (ps : List (List ℕ)). p ∷ ps) rest
+
+-- the packets that are told of
+abbrev toldUp : List Answer → List (List ℕ)
+toldUp told = handedUp (handedWith told)
+
+told-up : (xs ys : List Answer) → toldUp (xs ++ ys) ≡ toldUp xs ++ toldUp ys
+told-up xs ys = ap handedUp (handed-append xs ys) ∙ up-append (handedWith xs) (handedWith ys)
+
+-- a frame that was closed
+frame-up : (l : Ledger) (f : Frame) (rest : Option ℕ → List BoardEvent)
+    → packetsIn (behindFrame f (l .sequence) rest) ≡ toldUp (toldBy (closed l f .answer)) ++ packetsIn (rest (closed l f .ledger .sequence))
+unfolding packetsIn handedWith handedUp
+frame-up l (frames.refused n) rest = by-number (eqb n shortOutput)
+  where
+    by-number : (t : Bool) → packetsIn (rest (l .sequence)) ≡ toldUp (cond t [] (answers.refused n ∷ [])) ++ packetsIn (rest (l .sequence))
+    by-number true = refl
+    by-number false = refl
+frame-up l (frames.acknowledgement sequence) rest = refl
+frame-up l (frames.good sequence payload) rest = by-last (repeated (l .sequence) sequence) refl
+  where
+    by-last : (t : Bool) → repeated (l .sequence) sequence ≡ t
+        → packetsIn (behindFrame (frames.good sequence payload) (l .sequence) rest)
+        ≡ toldUp (toldBy (closed l (frames.good sequence payload) .answer)) ++ packetsIn (rest (closed l (frames.good sequence payload) .ledger .sequence))
+    by-last true e = rw e (ap (λ (o : Option ℕ). packetsIn (rest o)) (sym (repeats-last (l .sequence) sequence e)))
+    by-last false e =
+        rw e (ap (λ (o : Option ℕ). payload ∷ packetsIn (rest o)) (sym (read-sequence l sequence (calls.readingBy l payload))))
+
+history-up : (l : Ledger) (es : List Event) → packetsIn (boardEventsFrom (l .run) (l .sequence) es) ≡ toldUp (toldInHistory l es)
+unfolding boardEventsFrom packetsIn toldInHistory handedWith handedUp
+history-up l [] = refl
+history-up l (minute ∷ es) = history-up (happens l minute .ledger) es
+history-up l (byte b ∷ es) = by-turn (turn (l .run) b) (λ m. history-up m es)
+  where
+    by-turn : (t : Turn) → ((m : Ledger) → packetsIn (boardEventsFrom (m .run) (m .sequence) es) ≡ toldUp (toldInHistory m es))
+        → packetsIn (behindByte t (l .sequence) (λ run last. boardEventsFrom run last es))
+        ≡ toldUp (atTurn l t .told ++ toldInHistory (atTurn l t .ledger) es)
+    by-turn (goes-on run) rest = rest (withRun l run)
+    by-turn (closes run) rest =
+        let here = withRun l (some []) in
+        let m = closed here (frameOf run) .ledger in
+        let empty : m .run ≡ some [] = run-kept here (frameOf run) in
+        frame-up here (frameOf run) (λ last. boardEventsFrom (some []) last es)
+        ∙ ap (λ (ps : List (List ℕ)). toldUp (toldBy (closed here (frameOf run) .answer)) ++ ps) (rw empty at (rest m))
+        ∙ sym (told-up (toldBy (closed here (frameOf run) .answer)) (toldInHistory m es))
+
+-- THEOREM. After every list of calls the packets that stood in the packet buffers, in order, are the payloads of the data frames that were
+-- closed and not repeated at once, each of which went to the board.
+pub handed-up : (names : List (List ℕ)) (w : WatchList) → namesIn w ≡ some names → (d : Display) → Begins w d
+    → (cs : List Call) (left : List Left) (end : Display) → Chain d cs left end
+    → handedUp (allHanded left) ≡ packetsIn (boardEventsIn (history cs left))
+handed-up names w listed d begins cs left end chain =
+    let a = agreeing listed begins chain in
+    ap handedUp (ap allHanded (a .all .gives) ∙ all-handed names (start names) cs ∙ ap handedWith (told-by names cs left (a .all .gives)))
+    ∙ sym (history-up (start names) (history cs left))

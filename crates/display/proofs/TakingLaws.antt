@@ -1,4 +1,4 @@
--- A call with buffers of 9 and 383 bytes takes some of its piece: the display takes what its link takes.
+-- A call with buffers of at least 9 and 383 bytes takes some of its piece: the display takes what its link takes.
 use mathlib.Core.Path.{_≡_, refl, ap, _∙_}
 use mathlib.Core.List.{List}
 use Prim.Native.Nat.{ℕ, _+_, _-_, _≤_, _<_}
@@ -20,18 +20,23 @@ taken-by-link (link-answer.the-variants.Heard sequence) board call = refl
 taken-by-link (link-answer.the-variants.Again reply) board call = refl
 taken-by-link (link-answer.the-variants.New reply packet) board call = refl
 
-pub takes : (display : Display) (piece reply packet reply₁ packet₁ : List ℕ) (received : Received)
-    → DisplaysAs (receivePiece display piece 9 383) reply packet received reply₁ packet₁ → Takes piece (received .taken)
+pub takes-some : (display : Display) (piece : List ℕ) (replySize packetSize : ℕ) (reply packet reply₁ packet₁ : List ℕ) (received : Received)
+    → 9 ≤ replySize → 383 ≤ packetSize → DisplaysAs (receivePiece display piece replySize packetSize) reply packet received reply₁ packet₁
+    → Takes piece (received .taken)
 unfolding receivePiece
-takes display piece reply packet reply₁ packet₁ received r =
-    let call = receiveOf (display .link) piece 9 383 in
+takes-some display piece replySize packetSize reply packet reply₁ packet₁ received a b r =
+    let call = receiveOf (display .link) piece replySize packetSize in
     let same : received .taken ≡ call .taken =
     ap (λ (x : Received). x .taken) (r .answers) ∙ taken-by-link (call .answer) (display .board) call in
     rw same
     (record {
-      within = taken-within (display .link) piece 9 383;
-      some = taken-progress (display .link) piece 9 383 (omega arith) (omega arith);
+      within = taken-within (display .link) piece replySize packetSize;
+      some = taken-progress (display .link) piece replySize packetSize a b;
     })
+
+pub takes : (display : Display) (piece reply packet reply₁ packet₁ : List ℕ) (received : Received)
+    → DisplaysAs (receivePiece display piece 9 383) reply packet received reply₁ packet₁ → Takes piece (received .taken)
+takes display piece reply packet reply₁ packet₁ received r = takes-some display piece 9 383 reply packet reply₁ packet₁ received (omega arith) (omega arith) r
 
 -- the rest of a stream loses some, and no more than it has
 pub taken-of-rest : (stream : List ℕ) (at taken : ℕ) → at < length stream → Takes (take (length stream - at) (drop at stream)) taken

@@ -8,7 +8,13 @@ use Prim.Native.Nat.{ℕ, _-_}
 use lib.ListN.{length}
 use Rattle.slices.specs.Put.{putAt}
 use Rattle.rows.specs.Entries.{boardShowing}
-use Rattle.board.specs.Reading.{readBoard}
+use Rattle.rows.specs.Names.{placeOf}
+use Rattle.board.specs.Reading as reading
+use Rattle.board.specs.Reading.{Verdict, readBoard}
+use Rattle.board.specs.declared.reading.Answer as board-answer
+use Rattle.link.specs.Counts.{countOf}
+use Rattle.link.specs.declared.counts.Counts.{Counts}
+use Rattle.link.specs.declared.counts.Event.the-variants as event
 use Rattle.link.specs.Walk.{walkOf}
 use Rattle.display.specs.declared.Answer.the-variants.{Again, New}
 use Rattle.display.specs.declared.Display.{Display}
@@ -19,9 +25,10 @@ use Rattle.ledger.specs.Answers as given
 use Rattle.ledger.specs.Answers.{WatchList, namesIn, Call, piece}
 use Rattle.ledger.specs.Calls as calls
 use Rattle.ledger.specs.Calls.{Effect, answerTo, repeated, closed, withRun, step, after}
-use Rattle.ledger.specs.Shown.{asEntry, Left, took, asLeft}
+use Rattle.ledger.specs.Shown.{asCounts, asEntry, asPlace, asReading, Left, took, asLeft}
 use Rattle.ledger.specs.History.{eventsOf, history}
 use Rattle.ledger.specs.ClosedFrames.{framesFrom, framesIn, Closes, lastSequence}
+use Rattle.ledger.proofs.CountAgreement.{count-new, count-again, count-unread}
 use Rattle.ledger.proofs.FrameAgreement.{read-shown, read-answered}
 use Rattle.ledger.proofs.Chain.{Begins, Chain}
 use Rattle.ledger.proofs.EveryList.{Agreed, chain-agrees, Agreeing, agreeing}
@@ -29,20 +36,39 @@ use Rattle.ledger.proofs.ByEvents.{afterHistory, frames-append, history
 use Rattle.ledger.proofs.ClosedCalls.{ClosedBy, step-closes, repeats, zero-new, other-new}
 use Rattle.ledger.proofs.SameHistory.{next-given, after-by}
 
--- a call that answered a data frame and dropped it: the packet buffer and the board are as they were
+-- a call that answered a data frame and dropped it: again plus 1, the packet buffer and the board are as they were
 pub record Dropped (sequence : ℕ) (reply packet : List ℕ) (before : Display) (more : Left) (behind : Display) : Type 0 where
   pub taken : ℕ
   pub answers : more ≡ took taken (Again (length (answerTo sequence))) (putAt reply 0 (answerTo sequence)) packet
+  pub counts : behind .link .counts ≡ countOf event.Again (before .link .counts)
   pub board : behind .board ≡ before .board
 
--- one that answered it as new: its payload is handed up, and the board has read it
+-- new plus 1, and for a packet that the board refused unread plus 1
+abbrev pub countRead : board-answer.Answer → Counts → Counts
+countRead (board-answer.the-variants.Refused n) counts = countOf event.Unread (countOf event.New counts)
+countRead board-answer.the-variants.EndMark counts = countOf event.New counts
+countRead (board-answer.the-variants.Updated row) counts = countOf event.New counts
+
+-- a call that answered it as new: its payload is handed up, and the board has read it
 pub record ReadAsNew (sequence : ℕ) (payload reply packet : List ℕ) (before : Display) (more : Left) (behind : Display) : Type 0 where
   pub taken : ℕ
   pub answers :
       more
       ≡ took taken (New (length (answerTo sequence)) (length payload) (readBoard (before .board) payload .answer)) (putAt reply 0 (answerTo sequence))
       (putAt packet 0 payload)
+  pub counts : behind .link .counts ≡ countRead (readBoard (before .board) payload .answer) (before .link .counts)
   pub board : behind .board ≡ readBoard (before .board) payload .board
+
+-- the ledger's counts after a packet was read
+read-counts : (names : List (List ℕ)) (l : Ledger) (sequence : ℕ) (v : Verdict)
+    → countRead (asReading names v) (asCounts (l .counts)) ≡ asCounts (calls.afterReading (calls.afterNew l sequence) v .counts)
+read-counts names l sequence (reading.refused n) = ap (countOf event.Unread) (count-new (l .counts)) ∙ count-unread (calls.afterNew l sequence .counts)
+read-counts names l sequence reading.endMark = count-new (l .counts)
+read-counts names l sequence (reading.update name value) = by-place (placeOf name names)
+  where
+    by-place : (o : Option ℕ) → countRead (asPlace o) (asCounts (l .counts)) ≡ asCounts (calls.afterNew l sequence .counts)
+    by-place (some place) = count-new (l .counts)
+    by-place none = count-new (l .counts)
 
 -- by the sequence of the last data frame, if there was one
 pub record AtOnce (last : Option ℕ) (sequence : ℕ) (payload reply packet : List ℕ) (before : Display) (more : Left) (behind : Display) : Type 0 where
@@ -82,6 +108,10 @@ module _ (names : List (List ℕ)) (cs : List Call) (left : List Left) (end : Di
   unfolding after
   board-is = one-call .agrees .shows .showing
 
+  counts-are : end₁ .link .counts ≡ asCounts (step l c .ledger .counts)
+  unfolding after
+  counts-are = one-call .agrees .counts-are
+
   -- by what the frame comes to
   module _ (e : Effect) (is : closed (withRun l (step-is .run)) (frames.good sequence payload) ≡ e) where
     left-is : more ≡ asLeft names (given.took (step-is .count) (e .answer) (putAt reply 0 (e .reply)) (putAt packet 0 (e .packet)))
@@ -93,6 +123,9 @@ module _ (names : List (List ℕ)) (cs : List Call) (left : List Left) (end : Di
     shown-is : end₁ .board ≡ boardShowing (map asEntry (e .ledger .entries))
     shown-is = board-is ∙ ap (λ (m : Ledger). boardShowing (map asEntry (m .entries))) (step-is .leaves ∙ ap (λ (x : Effect). x .ledger) is)
 
+    counted-is : end₁ .link .counts ≡ asCounts (e .ledger .counts)
+    counted-is = counts-are ∙ ap (λ (m : Ledger). asCounts (m .counts)) (step-is .leaves ∙ ap (λ (x : Effect). x .ledger) is)
+
   dropped : repeated (l .sequence) sequence ≡ true → Dropped sequence reply packet end more end₁
   dropped again =
       let run = withRun l (step-is .run) in
@@ -100,6 +133,9 @@ module _ (names : List (List ℕ)) (cs : List Call) (left : List Left) (end : Di
       record {
         taken = step-is .count;
         answers = left-is (calls.repeatedFrame run sequence) is;
+        counts =
+            counted-is (calls.repeatedFrame run sequence) is
+            ∙ sym (ap (countOf event.Again) (a .all .agrees .counts-are) ∙ count-again (l .counts));
         board = shown-is (calls.repeatedFrame run sequence) is ∙ sym (a .all .agrees .shows .showing);
       }
 
@@ -114,6 +150,11 @@ module _ (names : List (List ℕ)) (cs : List Call) (left : List Left) (end : Di
       record {
         taken = step-is .count;
         answers = rw answered (left-is (calls.newFrame run sequence payload) is);
+        counts =
+            counted-is (calls.newFrame run sequence payload) is
+            ∙ sym
+            (rw answered (ap (countRead (asReading names (calls.readingBy run payload))) (a .all .agrees .counts-are)
+            ∙ read-counts names run sequence (calls.readingBy run payload)));
         board = shown-is (calls.newFrame run sequence payload) is ∙ sym shown;
       }
 

@@ -87,7 +87,7 @@ pub record Runs (d : Display) (cs : List Call) : Type 0 where
   pub end : Display
   pub chain : Chain d cs left end
 
-received-by : (d : Display) (bytes reply packet : List ℕ)
+pub received-by : (d : Display) (bytes reply packet : List ℕ)
     → Receives d bytes reply packet (receivePiece d bytes (length reply) (length packet) .result)
     (putAt reply 0 (receivePiece d bytes (length reply) (length packet) .reply))
     (putAt packet 0 (receivePiece d bytes (length reply) (length packet) .packet))

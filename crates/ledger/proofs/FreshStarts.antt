@@ -8,7 +8,7 @@ use native.Mathlib.Omega.{arith}
 use Rattle.slices.proofs.Lent.{lent}
 use Rattle.rows.specs.Rows.{boardOf}
 use Rattle.rows.specs.declared.Board.{Board}
-use Rattle.board.specs.WatchList.{Good, watchNames, fieldsOf, watchBoard, asWatched}
+use Rattle.board.specs.WatchList.{Good, watchNames, fieldsOf, watchBoard, asWatched, acceptedWith}
 use Rattle.board.specs.declared.list.Listed.the-variants.{Accepted}
 use Rattle.board.specs.declared.list.Watched.{Watched}
 use Rattle.board.proofs.EntryLaws.{list-good}
@@ -17,7 +17,7 @@ use Rattle.board.proofs.WatchLaws.{good-none, good-more, watch-more, accepted-j
 use Rattle.display.specs.Display as display
 use Rattle.display.specs.declared.Display.{Display}
 use Rattle.ledger.specs.Answers.{WatchList, as-bytes, one-by-one, namesIn}
-use Rattle.ledger.proofs.Chain.{Begins, from-bytes, no-names, one-more}
+use Rattle.ledger.proofs.Chain.{Begins, from-bytes, no-names, one-more, Lists, Watches}
 
 -- what a fresh start is, by the contracts of the functions that made it
 pub record Began (w : WatchList) (d : Display) : Type 0 where
@@ -69,6 +69,22 @@ began (one-by-one ns) d (one-more {names = names} {name = name} {watched = watch
     let j = joined names name (d₀ .board) watched (rw same at (so-far .good)) board-is told accepted in
     record { names = names ++ (name ∷ []); listed = refl; good = j .good; is = started ∙ ap display.fresh (j .is) }
 
+-- THEOREM. Every call of `board::watch_list` with the fields of a good list of names is accepted, with the board of the names.
+pub good-list-accepted : (names : List (List ℕ)) → Good names → (watched : Watched) → Lists (fieldsOf names) watched → watched ≡ acceptedWith (boardOf names)
+good-list-accepted names good watched lists =
+    let told : watched ≡ asWatched (watchNames (fieldsOf names)) = rw (lists .list-lent .holds) at (lists .learnt) in
+    told ∙ ap asWatched (good-listed names good)
+
+-- THEOREM. Every call of `board::watch` with a name that makes a good list with those before it is accepted, with the board of all of them.
+pub good-name-accepted : (names : List (List ℕ)) (name : List ℕ) (d : Display) → Begins (one-by-one names) d → Good (names ++ (name ∷ []))
+    → (watched : Watched) → Watches (d .board) name watched → watched ≡ acceptedWith (boardOf (names ++ (name ∷ [])))
+good-name-accepted names name d begins good watched watches =
+    let b = began (one-by-one names) d begins in
+    let same = some-names (b .listed) in
+    let told : watched ≡ watchBoard (d .board) name = rw (watches .name-lent .holds) at (watches .learnt) in
+    let board-is : d .board ≡ boardOf names = ap (λ (x : Display). x .board) (b .is) ∙ ap boardOf same in
+    told ∙ ap (λ (x : Board). watchBoard x name) board-is ∙ watch-more names name (rw same at (b .good)) (may-join name [] names good)
+
 -- THEOREM. From every list that is accepted there is a fresh start.
 pub accepted-begins : (fields : List ℕ) (names : List (List ℕ)) → watchNames fields ≡ some names → Begins (as-bytes fields) (display.fresh (boardOf names))
 accepted-begins fields names e =
@@ -77,11 +93,11 @@ accepted-begins fields names e =
     refl
     refl
 
--- THEOREM. Every good list of names is accepted, as the bytes of its fields
+-- THEOREM. From every good list of names there is a fresh start, by the bytes of its fields.
 pub good-begins : (names : List (List ℕ)) → Good names → Begins (as-bytes (fieldsOf names)) (display.fresh (boardOf names))
 good-begins names good = accepted-begins (fieldsOf names) names (good-listed names good)
 
--- and name by name.
+-- name by name
 names-begin : (before names : List (List ℕ)) → Good before → Good (before ++ names) → Begins (one-by-one before) (display.fresh (boardOf before))
     → Begins (one-by-one (before ++ names)) (display.fresh (boardOf (before ++ names)))
 names-begin before [] good all begins = rw (append-nil before) begins
@@ -95,5 +111,6 @@ names-begin before (name ∷ names) good all begins =
     refl in
     rw behind at (names-begin (before ++ (name ∷ [])) names (good-more before name good joins) (rw behind all) with-name)
 
+-- THEOREM. From every good list of names there is a fresh start, name by name.
 pub good-names-begin : (names : List (List ℕ)) → Good names → Begins (one-by-one names) (display.fresh (boardOf names))
 good-names-begin names good = names-begin [] names good-none good (no-names refl refl)

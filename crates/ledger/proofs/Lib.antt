@@ -10,6 +10,7 @@ pub mod ByEvents
 pub mod HistoryLaws
 pub mod HandedLaws
 pub mod ToldLaws
+pub mod Streams
 pub mod SameHistory
 pub mod HandedUp
 pub mod ClosedCalls

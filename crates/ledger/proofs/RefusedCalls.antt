@@ -27,7 +27,7 @@ use Rattle.ledger.specs.Frames.{Frame, taken, frameOf}
 use Rattle.ledger.specs.Answers.{WatchList, namesIn, Call, piece}
 use Rattle.ledger.specs.Calls as calls
 use Rattle.ledger.specs.Calls.{Effect, repeated, closed, effectOf, withRun, pieceStep, step, after}
-use Rattle.ledger.specs.Shown.{asCounts, asEntry, asAnswer, Left, took, asLeft}
+use Rattle.ledger.specs.Shown.{asCounts, asLast, asEntry, asAnswer, Left, took, asLeft}
 use Rattle.ledger.proofs.CountAgreement.{count-refused}
 use Rattle.ledger.proofs.Chain.{Begins, Chain, done, receives, received}
 use Rattle.ledger.proofs.EveryList.{chain-agrees, agreeing}
@@ -65,12 +65,13 @@ record Kept (l : Ledger) (n : ℕ) (e : Effect) : Type 0 where
   packet : e .packet ≡ []
   entries : e .ledger .entries ≡ l .entries
   counts : e .ledger .counts ≡ plusRefused n (l .counts)
+  sequence : e .ledger .sequence ≡ l .sequence
 
 module _ (names : List (List ℕ)) (n : ℕ) where
   frame-kept : (l : Ledger) (f : Frame) → asAnswer names (closed l f .answer) ≡ Refused n → Kept l n (closed l f)
   frame-kept l (frames.refused k) e =
       let same : k ≡ n = cc in
-      record { reply = refl; packet = refl; entries = refl; counts = rw same }
+      record { reply = refl; packet = refl; entries = refl; counts = rw same; sequence = refl }
   frame-kept l (frames.acknowledgement sequence) e = let z : _≡_ {A = ℕ} 0 1 = cc in absurd (omega arith)
   frame-kept l (frames.good sequence payload) e = by-last (repeated (l .sequence) sequence) e
     where
@@ -89,6 +90,7 @@ pub record Counted (n : ℕ) (reply packet : List ℕ) (before : Display) (reply
   pub packet-kept : packet₁ ≡ packet
   pub board-kept : behind .board ≡ before .board
   pub counts : behind .link .counts ≡ countOf (event.Refused n) (before .link .counts)
+  pub last-kept : behind .link .last ≡ before .link .last
 
 with-room : (l : Ledger) (bytes reply packet : List ℕ) → 9 ≤ length reply → 383 ≤ length packet
     → step l (piece bytes reply packet) ≡ pieceStep l (taken (l .run) bytes 0) reply packet
@@ -126,4 +128,8 @@ refused-frame names w listed d begins cs left end chain bytes reply packet r p n
           one .agrees .counts-are
           ∙ ap (λ (s : calls.Step). asCounts (s .ledger .counts)) is
           ∙ rw (kept .counts) (sym (ap (countOf (event.Refused n)) (a .all .agrees .counts-are) ∙ count-refused (l .counts) n));
+      last-kept =
+          one .agrees .last-is
+          ∙ ap (λ (s : calls.Step). asLast (s .ledger .sequence)) is
+          ∙ rw (kept .sequence) (sym (a .all .agrees .last-is));
     }

@@ -8,3 +8,4 @@ pub mod StuffTheorems
 pub mod FrameTheorems
 pub mod FrameCalls
 pub mod FlagLaws
+pub mod RefusalLaws

@@ -21,7 +21,7 @@ use Rattle.ledger.specs.History.{Event, byte, minute}
 use Rattle.ledger.specs.ClosedFrames.{behindTurn, framesFrom, dataSequences, lastFrom}
 use Rattle.ledger.proofs.StepAgreement.{run-kept}
 
--- the answers that do not hang on where a piece was cut
+-- the answers that do not depend on where a piece was cut
 abbrev pub toldBy : Answer → List Answer
 toldBy nothing = []
 toldBy (refused n) = cond (eqb n shortOutput) [] (refused n ∷ [])

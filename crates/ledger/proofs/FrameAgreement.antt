@@ -29,6 +29,7 @@ use Rattle.link.specs.declared.counts.Counts as link-counts
 use Rattle.link.specs.declared.counts.Event.the-variants as event
 use Rattle.link.specs.declared.receiver.Answer.the-variants as link-says
 use Rattle.link.specs.declared.receiver.Last.{Last}
+use Rattle.link.specs.declared.receiver.Last.the-variants.{None, Sequence}
 use Rattle.display.specs.Display.{countReading, keepBoard, received, takeReading, resultOf}
 use Rattle.display.specs.declared.Answer as display-answer
 use Rattle.display.specs.declared.Answer.the-variants as says
@@ -39,9 +40,14 @@ use Rattle.ledger.specs.Frames.{Frame, byType}
 use Rattle.ledger.specs.Answers as answers
 use Rattle.ledger.specs.Calls as calls
 use Rattle.ledger.specs.Calls.{Effect, repeated, closed, afterNew, afterReading}
-use Rattle.ledger.specs.Shown.{asCounts, asLast, asEntry, asPlace, asReading, asAnswer}
+use Rattle.ledger.specs.Shown.{asCounts, asEntry, asPlace, asReading, asAnswer}
 use Rattle.ledger.proofs.CountAgreement.{count-new, count-again, count-heard, count-unread, count-refused}
 use Rattle.ledger.proofs.RowAgreement.{entries-updated, names-updated, names-shown, place-listed}
+
+-- the link's last sequence
+abbrev pub asLast : Option ℕ → Last
+asLast none = None
+asLast (some sequence) = Sequence sequence
 
 -- what a frame does to the link, by what it is
 abbrev pub linkOutcome : Frame → Last → link-counts.Counts → Outcome

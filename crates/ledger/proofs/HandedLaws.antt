@@ -9,6 +9,7 @@ use native.Mathlib.Omega.{arith}
 use lib.Dec.{eqb, ltb}
 use lib.ListN.{length, take}
 use borrow.Author.Tests.{ltb-false}
+use Rattle.refusals.specs.Numbers.{unknownType, loadedAcknowledgement}
 use Rattle.slices.specs.Put.{putAt}
 use Rattle.slices.proofs.PutLaws.{put-first}
 use Rattle.frame.specs.Content as content
@@ -48,7 +49,7 @@ payload-bounded run sequence payload e = by-read (readRun run) refl e
     by-read (content.frame kind other bytes) f e = by-type (eqb kind 0x01) (eqb kind 0x02) (eqb (length bytes) 0) e
       where
         by-type : (t u v : Bool)
-            → cond t (frames.good other bytes) (cond u (cond v (frames.acknowledgement other) (frames.refused 6)) (frames.refused 5)) ≡ frames.good sequence payload
+            → cond t (frames.good other bytes) (cond u (cond v (frames.acknowledgement other) (frames.refused loadedAcknowledgement)) (frames.refused unknownType)) ≡ frames.good sequence payload
             → length payload ≤ 383
         by-type true u v e = let same : bytes ≡ payload = cc in rw (← same) (run-bounded run kind other bytes f)
         by-type false true true e = let z : _≡_ {A = ℕ} 0 1 = cc in absurd (omega arith)

@@ -1,6 +1,6 @@
 -- The packets that are handed out are those that went to the board: a data frame that is closed and not repeated at once is answered as new,
 -- with its payload, and no other frame is.
-use mathlib.Core.Path.{_≡_, refl, sym, ap, ap₂, _∙_}
+use mathlib.Core.Path.{_≡_, refl, sym, ap, _∙_}
 use mathlib.Core.Bool.{Bool, true, false, cond}
 use mathlib.Core.List.{List, [], _∷_, _++_}
 use mathlib.Core.Option.{Option, some, none}

@@ -19,4 +19,5 @@ pub mod UpdateLaws
 pub mod LastAcceptedLaws
 pub mod NamedRows
 pub mod CurrentWhen
+pub mod RefusedFrames
 pub mod RefusedCalls

@@ -1,22 +1,16 @@
--- DEMAND 1 of the display: a refusal leaves buffers, board and link state as they were; a bad frame is off the line and counted; a packet
--- that the board refuses is counted as unread. A call with a short buffer does not look at the piece, and a frame that is refused hands
--- nothing out.
-use mathlib.Core.Path.{_≡_, refl, sym, ap, _∙_}
-use mathlib.Core.Bool.{Bool, true, false, cond}
-use mathlib.Core.List.{List, [], _∷_, _++_, map}
+-- DEMAND 1 of the display, the other refusals: a call with a short buffer does not look at the piece and leaves all as it was; a packet that
+-- the board refuses leaves the board, and is counted as unread.
+use mathlib.Core.Path.{_≡_, refl, _∙_}
+use mathlib.Core.Bool.{Bool, true, false}
+use mathlib.Core.List.{List, [], _∷_}
 use mathlib.Core.Option.{Option, some, none}
 use mathlib.Core.Logic.{_⊎_, inl, inr}
-use Prim.Native.Nat.{ℕ, _-_, _≤_, _<_}
+use Prim.Native.Nat.{ℕ, _-_, _<_}
 use native.Mathlib.Omega.{arith}
-use lib.Dec.{eqb, ltb}
-use lib.ListN.{length, take, getD}
-use borrow.Author.Tests.{ltb-true, ltb-false, le-ltb}
-use Rattle.refusals.specs.Numbers.{shortContent, badCheck, unknownType, loadedAcknowledgement, shortOutput}
-use Rattle.slices.specs.Put.{putAt}
-use Rattle.frame.specs.Content as content
-use Rattle.frame.specs.Reading.{readRun}
-use Rattle.frame.proofs.RefusalLaws.{run-number}
-use Rattle.rows.specs.Entries.{boardShowing}
+use lib.Dec.{ltb}
+use lib.ListN.{length}
+use borrow.Author.Tests.{ltb-true, ltb-false}
+use Rattle.refusals.specs.Numbers.{shortOutput}
 use Rattle.rows.specs.Names.{placeOf}
 use Rattle.rows.specs.Rows.{rowNames, watched}
 use Rattle.rows.specs.declared.Board.{Board}
@@ -31,24 +25,11 @@ use Rattle.display.specs.Display.{outcomeOf, receivePiece, DisplaysAs}
 use Rattle.display.specs.declared.Answer.the-variants.{Refused}
 use Rattle.display.specs.declared.Display.{Display}
 use Rattle.display.specs.declared.Received.{Received}
-use Rattle.ledger.specs.Ledger.{Ledger, start, plusRefused}
-use Rattle.ledger.specs.Frames as frames
-use Rattle.ledger.specs.Frames.{Frame, Taken, taken, byType, frameOf}
-use Rattle.ledger.specs.Answers.{WatchList, namesIn, Call, piece}
-use Rattle.ledger.specs.Calls as calls
-use Rattle.ledger.specs.Calls.{Effect, repeated, closed, effectOf, withRun, pieceStep, step, after}
-use Rattle.ledger.specs.Shown.{asCounts, asLast, asEntry, asAnswer, Left, took, asLeft}
-use Rattle.ledger.specs.History.{Event, byte, history}
-use Rattle.ledger.specs.ClosedFrames.{framesFrom, framesIn, Closes}
-use Rattle.ledger.proofs.CountAgreement.{count-refused}
-use Rattle.ledger.proofs.Chain.{Begins, Chain, done, receives, received}
-use Rattle.ledger.proofs.EveryList.{Agreed, chain-agrees, Agreeing, agreeing}
-use Rattle.ledger.proofs.ByEvents.{frames-append}
-use Rattle.ledger.proofs.HistoryLaws.{framesOf, piece-same}
-use Rattle.ledger.proofs.SameHistory.{next-given, after-by}
+use Rattle.ledger.specs.Frames.{taken}
+use Rattle.ledger.specs.Answers.{piece}
+use Rattle.ledger.specs.Shown.{Left, took}
+use Rattle.ledger.proofs.Chain.{Chain, done, receives, received}
 use Rattle.ledger.proofs.AtOnce.{ReadAsNew}
-
--- ---- a short buffer
 
 call-short : (d : Display) (bytes reply packet : List ℕ) → (length reply < 9) ⊎ (length packet < 383)
     → receiveOf (d .link) bytes (length reply) (length packet) ≡ shortCall (d .link)
@@ -71,153 +52,6 @@ pub short-buffer : (d d₁ : Display) (bytes reply packet : List ℕ) (left : Le
 unfolding receivePiece
 short-buffer d d₁ bytes reply packet left (receives {reply₁ = reply₁} {packet₁ = packet₁} {result = result} r done) short =
     short-done d reply packet result reply₁ packet₁ (rw (call-short d bytes reply packet short) at (received r))
-
--- ---- a refused frame
-
--- the numbers of refused frames
-frame-number : (run : List ℕ) (n : ℕ) → frameOf run ≡ frames.refused n → (1 ≤ n) × (n ≤ 6)
-unfolding frameOf
-frame-number run n e = by-read (readRun run) refl e
-  where
-    by-number : (m : ℕ) → 1 ≤ m → m ≤ 6 → frames.refused m ≡ frames.refused n → (1 ≤ n) × (n ≤ 6)
-    by-number m least most e = let same : m ≡ n = cc in rw (← same) (least, most)
-
-    by-type : (sequence : ℕ) (payload : List ℕ) (t u v : Bool)
-        → cond t (frames.good sequence payload) (cond u (cond v (frames.acknowledgement sequence) (frames.refused loadedAcknowledgement)) (frames.refused unknownType))
-        ≡ frames.refused n → (1 ≤ n) × (n ≤ 6)
-    by-type sequence payload true u v e = let z : _≡_ {A = ℕ} 0 1 = cc in absurd (omega arith)
-    by-type sequence payload false true true e = let z : _≡_ {A = ℕ} 0 1 = cc in absurd (omega arith)
-    by-type sequence payload false true false e = by-number loadedAcknowledgement (omega arith) (omega arith) e
-    by-type sequence payload false false v e = by-number unknownType (omega arith) (omega arith) e
-
-    by-read : (found : content.Read) → readRun run ≡ found → byType found ≡ frames.refused n → (1 ≤ n) × (n ≤ 6)
-    by-read (content.refused m) f e =
-        let known = run-number m run f in
-        by-number m (known .0) (omega (arith, known .1)) e
-    by-read (content.frame kind sequence payload) f e = by-type sequence payload (eqb kind 0x01) (eqb kind 0x02) (eqb (length payload) 0) e
-
--- an effect that is answered by a refusal
-record Kept (l : Ledger) (n : ℕ) (frame : Option (List ℕ)) : Type 0 where
-  number : (1 ≤ n) × (n ≤ 6)
-  closes : framesOf frame ≡ frames.refused n ∷ []
-  reply : effectOf l frame .reply ≡ []
-  packet : effectOf l frame .packet ≡ []
-  entries : effectOf l frame .ledger .entries ≡ l .entries
-  counts : effectOf l frame .ledger .counts ≡ plusRefused n (l .counts)
-  sequence : effectOf l frame .ledger .sequence ≡ l .sequence
-
-module _ (names : List (List ℕ)) (n : ℕ) (l : Ledger) where
-  frame-refused : (f : Frame) → asAnswer names (closed l f .answer) ≡ Refused n → f ≡ frames.refused n
-  frame-refused (frames.refused k) e = let same : k ≡ n = cc in ap frames.refused same
-  frame-refused (frames.acknowledgement sequence) e = let z : _≡_ {A = ℕ} 0 1 = cc in absurd (omega arith)
-  frame-refused (frames.good sequence payload) e = by-last (repeated (l .sequence) sequence) e
-    where
-      by-last : (t : Bool) → asAnswer names (cond t (calls.repeatedFrame l sequence) (calls.newFrame l sequence payload) .answer) ≡ Refused n
-          → frames.good sequence payload ≡ frames.refused n
-      by-last true e = let z : _≡_ {A = ℕ} 0 1 = cc in absurd (omega arith)
-      by-last false e = let z : _≡_ {A = ℕ} 0 1 = cc in absurd (omega arith)
-
-  effect-kept : (frame : Option (List ℕ)) → asAnswer names (effectOf l frame .answer) ≡ Refused n → Kept l n frame
-  effect-kept none e = let z : _≡_ {A = ℕ} 0 1 = cc in absurd (omega arith)
-  effect-kept (some run) e =
-      let is = frame-refused (frameOf run) e in
-      record {
-        number = frame-number run n is;
-        closes = ap (λ (f : Frame). f ∷ []) is;
-        reply = rw is;
-        packet = rw is;
-        entries = rw is;
-        counts = rw is;
-        sequence = rw is;
-      }
-
--- a call with room that is answered by a refusal, from 1 to 6: the frame is off the line, one more is counted under its number, and the
--- buffers, the board and the last sequence are as they were
-pub record OffTheLine (n : ℕ) (events further : List Event) (reply packet : List ℕ) (before : Display) (reply₁ packet₁ : List ℕ) (behind : Display) : Type 0 where
-  pub number : (1 ≤ n) × (n ≤ 6)
-  pub closes : Closes events further (frames.refused n)
-  pub reply-kept : reply₁ ≡ reply
-  pub packet-kept : packet₁ ≡ packet
-  pub board-kept : behind .board ≡ before .board
-  pub last-kept : behind .link .last ≡ before .link .last
-  pub counts : behind .link .counts ≡ countOf (event.Refused n) (before .link .counts)
-
-with-room : (l : Ledger) (bytes reply packet : List ℕ) → 9 ≤ length reply → 383 ≤ length packet
-    → step l (piece bytes reply packet) ≡ pieceStep l (taken (l .run) bytes 0) reply packet
-unfolding step
-with-room l bytes reply packet r p = rw (le-ltb (length reply) 9 r, le-ltb (length packet) 383 p)
-
-module _ (names : List (List ℕ)) (cs : List Call) (left : List Left) (end : Display) (a : Agreeing names cs left end)
-    (bytes reply packet : List ℕ) (r : 9 ≤ length reply) (p : 383 ≤ length packet) (n count : ℕ) (reply₁ packet₁ : List ℕ) (end₁ : Display)
-    (next : Chain end (piece bytes reply packet ∷ []) (took count (Refused n) reply₁ packet₁ ∷ []) end₁) where
-  abbrev l : Ledger
-  l = after (start names) cs
-
-  abbrev t : Taken
-  t = taken (l .run) bytes 0
-
-  abbrev effect : Effect
-  effect = effectOf (withRun l (t .run)) (t .frame)
-
-  one : Agreed names l (piece bytes reply packet ∷ []) (took count (Refused n) reply₁ packet₁ ∷ []) end₁
-  one = chain-agrees names (a .fit) l next (a .all .agrees)
-
-  ledger-is : step l (piece bytes reply packet) .ledger ≡ effect .ledger
-  ledger-is = ap (λ (s : calls.Step). s .ledger) (with-room l bytes reply packet r p)
-
-  gave : took count (Refused n) reply₁ packet₁ ≡ asLeft names (pieceStep l t reply packet .given)
-  gave =
-      next-given names l (piece bytes reply packet) (took count (Refused n) reply₁ packet₁) (one .gives)
-      ∙ ap (λ (s : calls.Step). asLeft names (s .given)) (with-room l bytes reply packet r p)
-
-  kept : Kept (withRun l (t .run)) n (t .frame)
-  kept = let said = gave in effect-kept names n (withRun l (t .run)) (t .frame) (let same : asAnswer names (effect .answer) ≡ Refused n = cc in same)
-
-  closed-here : Closes (history cs left) (map byte (take count bytes)) (frames.refused n)
-  closed-here =
-      let said = gave in
-      let all : count ≡ t .count - 0 = let same : count ≡ t .count = cc in omega arith in
-      let run-is = ap (λ (m : Ledger). m .run) (after-by names cs left (a .all .gives)) in
-      let here : framesFrom (l .run) (map byte (take count bytes)) ≡ frames.refused n ∷ [] = rw all (piece-same bytes l 0 .frames ∙ kept .closes) in
-      frames-append (start names) (history cs left) (map byte (take count bytes))
-      ∙ ap (λ (fs : List Frame). framesIn (history cs left) ++ fs) (rw run-is at here)
-
-  off-the-line : OffTheLine n (history cs left) (map byte (take count bytes)) reply packet end reply₁ packet₁ end₁
-  unfolding after
-  off-the-line =
-      let said = gave in
-      let replied : reply₁ ≡ putAt reply 0 (effect .reply) = cc in
-      let handed : packet₁ ≡ putAt packet 0 (effect .packet) = cc in
-      record {
-        number = kept .number;
-        closes = closed-here;
-        reply-kept = replied ∙ ap (putAt reply 0) (kept .reply);
-        packet-kept = handed ∙ ap (putAt packet 0) (kept .packet);
-        board-kept =
-            one .agrees .shows .showing
-            ∙ ap (λ (m : Ledger). boardShowing (map asEntry (m .entries))) ledger-is
-            ∙ rw (kept .entries) (sym (a .all .agrees .shows .showing));
-        last-kept =
-            one .agrees .last-is
-            ∙ ap (λ (m : Ledger). asLast (m .sequence)) ledger-is
-            ∙ rw (kept .sequence) (sym (a .all .agrees .last-is));
-        counts =
-            one .agrees .counts-are
-            ∙ ap (λ (m : Ledger). asCounts (m .counts)) ledger-is
-            ∙ rw (kept .counts) (sym (ap (countOf (event.Refused n)) (a .all .agrees .counts-are) ∙ count-refused (l .counts) n));
-      }
-
--- THEOREM. After every list of calls: where the next call has room and is answered by a refusal, it is a frame's, from 1 to 6. The frame is off
--- the line and counted under that number, and the buffers, the board and the last sequence are as they were.
-pub refused-frame : (names : List (List ℕ)) (w : WatchList) → namesIn w ≡ some names → (d : Display) → Begins w d
-    → (cs : List Call) (left : List Left) (end : Display) → Chain d cs left end
-    → (bytes reply packet : List ℕ) → 9 ≤ length reply → 383 ≤ length packet → (n count : ℕ) (reply₁ packet₁ : List ℕ) (end₁ : Display)
-    → Chain end (piece bytes reply packet ∷ []) (took count (Refused n) reply₁ packet₁ ∷ []) end₁
-    → OffTheLine n (history cs left) (map byte (take count bytes)) reply packet end reply₁ packet₁ end₁
-refused-frame names w listed d begins cs left end chain bytes reply packet r p n count reply₁ packet₁ end₁ next =
-    off-the-line names cs left end (agreeing listed begins chain) bytes reply packet r p n count reply₁ packet₁ end₁ next
-
--- ---- a packet that the board refuses
 
 refused-stays : (board : Board) (v : Verdict) (k : ℕ) → applied board v .answer ≡ board-says.Refused k → applied board v .board ≡ board
 unfolding applied updated

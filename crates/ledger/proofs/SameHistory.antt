@@ -17,6 +17,12 @@ use Rattle.ledger.proofs.ByEvents.{afterHistory, toldInHistory}
 use Rattle.ledger.proofs.HistoryLaws.{after-history, toldOut, told-history}
 use Rattle.ledger.proofs.ToldLaws.{handedWith, all-handed, all-told}
 
+-- what one more call left of each
+pub record SameNext (more more₁ : Left) (then then₁ : Display) : Type 0 where
+  pub answered : more ≡ more₁
+  pub counts : then .link .counts ≡ then₁ .link .counts
+  pub board : then .board ≡ then₁ .board
+
 -- two displays after a list of calls each: what the calls left, and what one more call leaves
 pub record Alike (left left₁ : List Left) (end end₁ : Display) : Type 0 where
   -- all answers in order, but "nothing" and refusal 7
@@ -25,9 +31,9 @@ pub record Alike (left left₁ : List Left) (end end₁ : Display) : Type 0 wher
   pub handed : allHanded left ≡ allHanded left₁
   pub counts : end .link .counts ≡ end₁ .link .counts
   pub board : end .board ≡ end₁ .board
-  -- the same next call is answered alike, and leaves the same in its buffers
+  -- the same next call is answered alike, leaves the same in its buffers, and then counts and board are alike again
   pub next : (c : Call) (more more₁ : Left) (then then₁ : Display) → Chain end (c ∷ []) (more ∷ []) then → Chain end₁ (c ∷ []) (more₁ ∷ []) then₁
-      → more ≡ more₁
+      → SameNext more more₁ then then₁
 
 module _ (names : List (List ℕ)) where
   -- one call, by what the ledger gives
@@ -83,9 +89,20 @@ module _ (names : List (List ℕ)) where
               λ c more more₁ then then₁ calls calls₁.
               let here = chain-agrees names (one .fit) (after (start names) cs) calls (one .all .agrees) in
               let there = chain-agrees names (two .fit) (after (start names) cs₁) calls₁ (two .all .agrees) in
-              next-given (after (start names) cs) c more (here .gives)
-              ∙ ap (λ (m : Ledger). asLeft names (step m c .given)) same-ledger
-              ∙ sym (next-given (after (start names) cs₁) c more₁ (there .gives));
+              record {
+                answered =
+                    next-given (after (start names) cs) c more (here .gives)
+                    ∙ ap (λ (m : Ledger). asLeft names (step m c .given)) same-ledger
+                    ∙ sym (next-given (after (start names) cs₁) c more₁ (there .gives));
+                counts =
+                    here .agrees .counts-are
+                    ∙ ap (λ (m : Ledger). asCounts (after m (c ∷ []) .counts)) same-ledger
+                    ∙ sym (there .agrees .counts-are);
+                board =
+                    here .agrees .shows .showing
+                    ∙ ap (λ (m : Ledger). boardShowing (map asEntry (after m (c ∷ []) .entries))) same-ledger
+                    ∙ sym (there .agrees .shows .showing);
+              };
         }
 
 -- THEOREM. Lists of calls from fresh starts with the same names, whose bytes taken and ticks are the same in order, are alike, wherever

@@ -38,10 +38,10 @@ use Rattle.ledger.specs.Frames.{Frame, Taken, taken, frameOf}
 use Rattle.ledger.specs.Calls as calls
 use Rattle.ledger.specs.Answers.{piece, tick}
 use Rattle.ledger.specs.Calls.{Effect, afterReading, closed, effectOf, withRun, pieceStep, shortStep, step}
-use Rattle.ledger.specs.Shown.{asCounts, asLast, asEntry, Left, took, ticked, asLeft}
+use Rattle.ledger.specs.Shown.{asCounts, asEntry, Left, took, ticked, asLeft}
 use Rattle.ledger.proofs.RunAgreement.{Standing, Reached, Agreement, agree}
 use Rattle.ledger.proofs.RowAgreement.{entries-older, names-older}
-use Rattle.ledger.proofs.FrameAgreement.{read-by-type, Shows, Effects, frame-agrees, nothing-agrees}
+use Rattle.ledger.proofs.FrameAgreement.{asLast, read-by-type, Shows, Effects, frame-agrees, nothing-agrees}
 
 -- display and ledger agree
 pub record Agrees (names : List (List ℕ)) (l : Ledger) (d : Display) : Type 0 where

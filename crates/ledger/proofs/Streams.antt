@@ -1,9 +1,9 @@
 -- Every stream of bytes and minutes is taken by some list of calls, since a call with room takes at least one byte of its piece.
-use mathlib.Core.Path.{_≡_, refl, ap, _∙_}
-use mathlib.Core.List.{List, [], _∷_, map}
+use mathlib.Core.Path.{_≡_, refl, ap}
+use mathlib.Core.List.{List, [], _∷_}
 use Prim.Native.Nat.{ℕ, _≤_}
 use native.Mathlib.Omega.{arith}
-use lib.ListN.{length, take, replicate}
+use lib.ListN.{length, replicate}
 use Rattle.display.specs.Display.{receivePiece, tickDisplay}
 use Rattle.display.specs.Taking.{Takes}
 use Rattle.display.specs.declared.Display.{Display}

@@ -15,7 +15,7 @@ use Rattle.rows.specs.Names.{placeFrom, isSome, isIn}
 use Rattle.board.specs.Reading as reading
 use Rattle.board.specs.Reading.{Verdict, readingOf}
 use Rattle.board.specs.WatchList.{distinct}
-use Rattle.ledger.specs.Ledger.{Update, Entry, Ledger, nameOf, updated, older, olderEntry}
+use Rattle.ledger.specs.Ledger.{Update, Entry, Ledger, nameOf, updated, older}
 use Rattle.ledger.specs.Frames as frames
 use Rattle.ledger.specs.Frames.{Turn, goes-on, closes, turn, Frame, frameOf}
 use Rattle.ledger.specs.Calls as calls

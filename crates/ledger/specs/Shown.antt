@@ -11,8 +11,6 @@ use Rattle.board.specs.Reading as reading
 use Rattle.board.specs.Reading.{Verdict}
 use Rattle.board.specs.declared.reading.Answer as board-answer
 use Rattle.link.specs.declared.counts.Counts as link-counts
-use Rattle.link.specs.declared.receiver.Last.{Last}
-use Rattle.link.specs.declared.receiver.Last.the-variants.{None, Sequence}
 use Rattle.display.specs.declared.Answer as display-answer
 use Rattle.ledger.specs.Ledger.{Counts, Entry, Row, never, current, silent, rowOf}
 use Rattle.ledger.specs.Answers as answers
@@ -31,10 +29,6 @@ asCounts c =
       unread = wrapped (c .unread);
       refused = map wrapped (c .refused);
     }
-
-abbrev pub asLast : Option ℕ → Last
-asLast none = None
-asLast (some sequence) = Sequence sequence
 
 abbrev pub asState : Row → State
 asState never = Never

@@ -1,14 +1,13 @@
 -- Calls of the frame writer and the reader, by the contracts that the toolchain reads off the source (`Learnt`): a contract that says less
 -- breaks what is built on this.
 use mathlib.Core.Path.{_≡_, refl, ap, _∙_}
-use mathlib.Core.List.{List, []}
+use mathlib.Core.List.{List}
 use Prim.Native.Nat.{ℕ, _+_, _≤_}
-use contract.Lifetimes.{Lfts}
 use native.Mathlib.Omega.{arith}
 use lib.ListN.{length, take}
 use Rattle.slices.specs.Put.{putAt}
 use Rattle.slices.proofs.PutLaws.{put-told}
-use Rattle.slices.proofs.Lent.{Lent, lent}
+use Rattle.slices.proofs.Lent.{InOutCall, in-out-call}
 use Rattle.ash.specs.Stuffing.{payloadMax, stuff}
 use Rattle.ash.specs.Writing as writing
 use Rattle.ash.specs.Writing.{frameOf, writeFrame}
@@ -25,34 +24,21 @@ use Rattle.ash.proofs.OnlyWritten.{taken-fits}
 use Rattle.ash.proofs.writer.write_frame.Reads as write-frame
 use Rattle.ash.proofs.reader.read_frame.Reads as read-frame
 
--- a call of `write_frame`: the slices lent hold the payload and the output as it was, and at exit the output as it is
-pub record Writes (control : ℕ) (payload before : List ℕ) (answer : Written) (after : List ℕ) : Type 0 where
-  pub lifetimes : Lfts 2
-  pub payload-lent : Lent payload
-  pub output-lent : Lent before
-  pub output-left : Lent after
-  pub asked : write-frame.Asked lifetimes (control, (payload-lent .slice, (output-lent .slice, tt)))
-  pub learnt :
-      write-frame.Learnt lifetimes (control, (payload-lent .slice, (output-lent .slice, tt))) answer
-      (control, (payload-lent .slice, (output-left .slice, tt)))
+-- a call of `write_frame`, and one of `read_frame`: an output is lent as it was before, and left as it is after
+abbrev pub Writes : (control : ℕ) (payload before : List ℕ) (answer : Written) (after : List ℕ) → Type 0
+Writes control = InOutCall write-frame.Asked write-frame.Learnt (λ payload output. (control, (payload, (output, tt))))
 
--- a call of `read_frame`
-pub record Reads (bytes before : List ℕ) (answer : FrameRead) (after : List ℕ) : Type 0 where
-  pub lifetimes : Lfts 2
-  pub bytes-lent : Lent bytes
-  pub output-lent : Lent before
-  pub output-left : Lent after
-  pub asked : read-frame.Asked lifetimes (bytes-lent .slice, (output-lent .slice, tt))
-  pub learnt : read-frame.Learnt lifetimes (bytes-lent .slice, (output-lent .slice, tt)) answer (bytes-lent .slice, (output-left .slice, tt))
+abbrev pub Reads : (bytes before : List ℕ) (answer : FrameRead) (after : List ℕ) → Type 0
+Reads = InOutCall read-frame.Asked read-frame.Learnt (λ bytes output. (bytes, (output, tt)))
 
 -- what such calls did, by the contracts
 pub was-written : {control : ℕ} {payload before : List ℕ} {answer : Written} {after : List ℕ} → Writes control payload before answer after
     → WritesAs (writeFrame (length before) control payload) before answer after
-was-written w = rw (w .payload-lent .holds, w .output-lent .holds, w .output-left .holds) at (w .learnt)
+was-written w = rw (w .input-lent .holds, w .output-lent .holds, w .output-left .holds) at (w .learnt)
 
 pub was-read : {bytes before : List ℕ} {answer : FrameRead} {after : List ℕ} → Reads bytes before answer after
     → ReadsAs (readFrame (length before) bytes) before answer after
-was-read r = rw (r .bytes-lent .holds, r .output-lent .holds, r .output-left .holds) at (r .learnt)
+was-read r = rw (r .input-lent .holds, r .output-lent .holds, r .output-left .holds) at (r .learnt)
 
 -- a length is answered only for a frame that was written, a frame only where one was found
 record Told (result : writing.Written) (n : ℕ) : Type 0 where
@@ -103,27 +89,11 @@ frame-in {bytes} {before} {control} {n} {after} r =
 pub all-payloads-are-written : (control : ℕ) (payload before : List ℕ)
     → Writes control payload before (writeAnswer (writeFrame (length before) control payload))
     (putAt before 0 (writtenBytes (writeFrame (length before) control payload)))
-all-payloads-are-written control payload before =
-    record {
-      lifetimes = ([], ([], tt));
-      payload-lent = lent payload;
-      output-lent = lent before;
-      output-left = lent (putAt before 0 (writtenBytes (writeFrame (length before) control payload)));
-      asked = tt;
-      learnt = record { answers = refl; output = refl };
-    }
+all-payloads-are-written control payload before = in-out-call tt (record { answers = refl; output = refl })
 
 pub all-bytes-are-read : (bytes before : List ℕ)
     → Reads bytes before (readAnswer (readFrame (length before) bytes)) (putAt before 0 (readPayload (readFrame (length before) bytes)))
-all-bytes-are-read bytes before =
-    record {
-      lifetimes = ([], ([], tt));
-      bytes-lent = lent bytes;
-      output-lent = lent before;
-      output-left = lent (putAt before 0 (readPayload (readFrame (length before) bytes)));
-      asked = tt;
-      learnt = record { answers = refl; output = refl };
-    }
+all-bytes-are-read bytes before = in-out-call tt (record { answers = refl; output = refl })
 
 -- A payload of at most 57 bytes as sent, lent with room for its frame, is answered by the frame's length.
 pub every-frame-is-written : (control : ℕ) (payload before : List ℕ) → length (stuff payload) ≤ payloadMax

@@ -1,14 +1,13 @@
 -- What one call wrote another reads back, and every frame that has room is written, by the contracts that the toolchain reads off the
 -- source (`Learnt`): a contract that says less breaks this.
 use mathlib.Core.Path.{_≡_, refl, ap, _∙_}
-use mathlib.Core.List.{List, []}
+use mathlib.Core.List.{List}
 use Prim.Native.Nat.{ℕ, _+_, _≤_}
-use contract.Lifetimes.{Lfts}
 use native.Mathlib.Omega.{arith}
 use lib.ListN.{length, take}
 use Rattle.slices.specs.Put.{putAt}
 use Rattle.slices.proofs.PutLaws.{put-told}
-use Rattle.slices.proofs.Lent.{Lent, lent}
+use Rattle.slices.proofs.Lent.{InOutCall, in-out-call}
 use Rattle.frame.specs.Stuffing.{escapes}
 use Rattle.frame.specs.Content as content
 use Rattle.frame.specs.Content.{payloadMax, contentOf, Read, frame}
@@ -25,34 +24,21 @@ use Rattle.frame.proofs.FrameTheorems.{written-length, wrote, written-r
 use Rattle.frame.proofs.writer.write_frame.Reads as write-frame
 use Rattle.frame.proofs.reader.read_frame.Reads as read-frame
 
--- a call of `write_frame`
-pub record Writes (kind sequence : ℕ) (payload before : List ℕ) (answer : Written) (after : List ℕ) : Type 0 where
-  pub lifetimes : Lfts 2
-  pub payload-lent : Lent payload
-  pub output-lent : Lent before
-  pub output-left : Lent after
-  pub asked : write-frame.Asked lifetimes (kind, (sequence, (payload-lent .slice, (output-lent .slice, tt))))
-  pub learnt :
-      write-frame.Learnt lifetimes (kind, (sequence, (payload-lent .slice, (output-lent .slice, tt)))) answer
-      (kind, (sequence, (payload-lent .slice, (output-left .slice, tt))))
+-- a call of `write_frame`, and one of `read_frame`
+abbrev pub Writes : (kind sequence : ℕ) (payload before : List ℕ) (answer : Written) (after : List ℕ) → Type 0
+Writes kind sequence = InOutCall write-frame.Asked write-frame.Learnt (λ payload output. (kind, (sequence, (payload, (output, tt)))))
 
--- a call of `read_frame`
-pub record Reads (bytes before : List ℕ) (answer : FrameRead) (after : List ℕ) : Type 0 where
-  pub lifetimes : Lfts 2
-  pub bytes-lent : Lent bytes
-  pub output-lent : Lent before
-  pub output-left : Lent after
-  pub asked : read-frame.Asked lifetimes (bytes-lent .slice, (output-lent .slice, tt))
-  pub learnt : read-frame.Learnt lifetimes (bytes-lent .slice, (output-lent .slice, tt)) answer (bytes-lent .slice, (output-left .slice, tt))
+abbrev pub Reads : (bytes before : List ℕ) (answer : FrameRead) (after : List ℕ) → Type 0
+Reads = InOutCall read-frame.Asked read-frame.Learnt (λ bytes output. (bytes, (output, tt)))
 
 -- what such calls did, by the contracts
 was-written : {kind sequence : ℕ} {payload before : List ℕ} {answer : Written} {after : List ℕ} → Writes kind sequence payload before answer after
     → WritesAs (writeFrame (length before) kind sequence payload) before answer after
-was-written w = rw (w .payload-lent .holds, w .output-lent .holds, w .output-left .holds) at (w .learnt)
+was-written w = rw (w .input-lent .holds, w .output-lent .holds, w .output-left .holds) at (w .learnt)
 
 pub was-read : {bytes before : List ℕ} {answer : FrameRead} {after : List ℕ} → Reads bytes before answer after
     → ReadsAs (readFrame (length before) bytes) before answer after
-was-read r = rw (r .bytes-lent .holds, r .output-lent .holds, r .output-left .holds) at (r .learnt)
+was-read r = rw (r .input-lent .holds, r .output-lent .holds, r .output-left .holds) at (r .learnt)
 
 -- a length is answered only for a frame that was written, and so many bytes of the output are the frame
 record Sent (room kind sequence : ℕ) (payload : List ℕ) (n : ℕ) (after : List ℕ) : Type 0 where
@@ -109,15 +95,7 @@ module _ (kind sequence : ℕ) (payload out : List ℕ) where
   pub every-payload-is-judged :
       Writes kind sequence payload out (writeAnswer (writeFrame (length out) kind sequence payload))
       (putAt out 0 (writtenBytes (writeFrame (length out) kind sequence payload)))
-  every-payload-is-judged =
-      record {
-        lifetimes = ([], ([], tt));
-        payload-lent = lent payload;
-        output-lent = lent out;
-        output-left = lent (putAt out 0 (writtenBytes (writeFrame (length out) kind sequence payload)));
-        asked = tt;
-        learnt = record { answers = refl; output = refl };
-      }
+  every-payload-is-judged = in-out-call tt (record { answers = refl; output = refl })
 
   module _ (short : length payload ≤ payloadMax) (room : sentLength kind sequence payload ≤ length out) where
     pub is-written : writeFrame (length out) kind sequence payload ≡ written (frameOf kind sequence payload)
@@ -140,12 +118,4 @@ module _ (kind sequence : ℕ) (payload out : List ℕ) where
 -- there is a call of the reader for all bytes and every output
 pub all-bytes-are-read : (bytes out : List ℕ)
     → Reads bytes out (readAnswer (readFrame (length out) bytes)) (putAt out 0 (readPayload (readFrame (length out) bytes)))
-all-bytes-are-read bytes out =
-    record {
-      lifetimes = ([], ([], tt));
-      bytes-lent = lent bytes;
-      output-lent = lent out;
-      output-left = lent (putAt out 0 (readPayload (readFrame (length out) bytes)));
-      asked = tt;
-      learnt = record { answers = refl; output = refl };
-    }
+all-bytes-are-read bytes out = in-out-call tt (record { answers = refl; output = refl })

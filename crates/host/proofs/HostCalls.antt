@@ -2,16 +2,15 @@
 -- and the whole-frame reader answer.
 use mathlib.Core.Path.{_≡_, refl, ap, _∙_}
 use mathlib.Core.Bool.{Bool, true, false, cond}
-use mathlib.Core.List.{List, [], _++_}
+use mathlib.Core.List.{List, _++_}
 use Prim.Native.Nat.{ℕ, _≤_}
-use contract.Lifetimes.{Lfts}
 use native.Mathlib.Omega.{arith}
 use lib.Dec.{ltb}
 use lib.ListN.{length, take}
 use Rattle.refusals.specs.Numbers.{shortOutput, longPayload}
 use Rattle.slices.specs.Put.{putAt}
 use Rattle.slices.proofs.PutLaws.{put-told}
-use Rattle.slices.proofs.Lent.{Lent, lent}
+use Rattle.slices.proofs.Lent.{InCall, InOutCall, in-call, in-out-call}
 use Rattle.crc.specs.Crc.{crcOf, checkBytes}
 use Rattle.crc.proofs.CrcLaws.{crc-checked}
 use Rattle.frame.specs.Content.{payloadMax, frame}
@@ -27,44 +26,27 @@ use Rattle.host.proofs.arznavik_crc.Reads as crc
 use Rattle.host.proofs.arznavik_frame_check.Reads as frame-check
 use Rattle.host.proofs.arznavik_frame_write.Reads as frame-write
 
--- a call of `arznavik_crc`
-pub record Checks (start : ℕ) (bytes : List ℕ) (answer : ℕ) : Type 0 where
-  pub lifetimes : Lfts 1
-  pub bytes-lent : Lent bytes
-  pub asked : crc.Asked lifetimes (start, (bytes-lent .slice, tt))
-  pub learnt : crc.Learnt lifetimes (start, (bytes-lent .slice, tt)) answer (start, (bytes-lent .slice, tt))
+-- a call of `arznavik_crc`, one of `arznavik_frame_write`, and one of `arznavik_frame_check`
+abbrev pub Checks : (start : ℕ) (bytes : List ℕ) (answer : ℕ) → Type 0
+Checks start = InCall crc.Asked crc.Learnt (λ bytes. (start, (bytes, tt)))
 
--- a call of `arznavik_frame_write`
-pub record Writes (kind sequence : ℕ) (payload before : List ℕ) (report : ℕ) (after : List ℕ) : Type 0 where
-  pub lifetimes : Lfts 2
-  pub payload-lent : Lent payload
-  pub output-lent : Lent before
-  pub output-left : Lent after
-  pub asked : frame-write.Asked lifetimes (kind, (sequence, (payload-lent .slice, (output-lent .slice, tt))))
-  pub learnt :
-      frame-write.Learnt lifetimes (kind, (sequence, (payload-lent .slice, (output-lent .slice, tt)))) report
-      (kind, (sequence, (payload-lent .slice, (output-left .slice, tt))))
+abbrev pub Writes : (kind sequence : ℕ) (payload before : List ℕ) (report : ℕ) (after : List ℕ) → Type 0
+Writes kind sequence = InOutCall frame-write.Asked frame-write.Learnt (λ payload output. (kind, (sequence, (payload, (output, tt)))))
 
--- a call of `arznavik_frame_check`
-pub record Reads (bytes before : List ℕ) (report : ℕ) (after : List ℕ) : Type 0 where
-  pub lifetimes : Lfts 2
-  pub bytes-lent : Lent bytes
-  pub output-lent : Lent before
-  pub output-left : Lent after
-  pub asked : frame-check.Asked lifetimes (bytes-lent .slice, (output-lent .slice, tt))
-  pub learnt : frame-check.Learnt lifetimes (bytes-lent .slice, (output-lent .slice, tt)) report (bytes-lent .slice, (output-left .slice, tt))
+abbrev pub Reads : (bytes before : List ℕ) (report : ℕ) (after : List ℕ) → Type 0
+Reads = InOutCall frame-check.Asked frame-check.Learnt (λ bytes output. (bytes, (output, tt)))
 
 -- what such calls did, by the contracts
 was-checked : {start : ℕ} {bytes : List ℕ} {answer : ℕ} → Checks start bytes answer → answer ≡ crcOf start bytes
-was-checked c = rw (c .bytes-lent .holds) at (c .learnt)
+was-checked c = rw (c .input-lent .holds) at (c .learnt)
 
 was-written : {kind sequence : ℕ} {payload before : List ℕ} {report : ℕ} {after : List ℕ} → Writes kind sequence payload before report after
     → ReportsWritten (writeFrame (length before) kind sequence payload) before report after
-was-written w = rw (w .payload-lent .holds, w .output-lent .holds, w .output-left .holds) at (w .learnt)
+was-written w = rw (w .input-lent .holds, w .output-lent .holds, w .output-left .holds) at (w .learnt)
 
 was-read : {bytes before : List ℕ} {report : ℕ} {after : List ℕ} → Reads bytes before report after
     → ReportsRead (readFrame (length before) bytes) before report after
-was-read r = rw (r .bytes-lent .holds, r .output-lent .holds, r .output-left .holds) at (r .learnt)
+was-read r = rw (r .input-lent .holds, r .output-lent .holds, r .output-left .holds) at (r .learnt)
 
 -- THEOREM. The check over bytes with their check behind them is 0, for each start value.
 pub checked-is-zero : (start : ℕ) (bytes : List ℕ) (check answer : ℕ) → Checks start bytes check → Checks start (bytes ++ checkBytes check) answer → answer ≡ 0
@@ -123,29 +105,13 @@ module _ (kind sequence : ℕ) (payload before : List ℕ) (report : ℕ) (after
 
 -- Such calls are there for all that can be lent, since the contracts ask nothing.
 pub all-bytes-are-checked : (start : ℕ) (bytes : List ℕ) → Checks start bytes (crcOf start bytes)
-all-bytes-are-checked start bytes = record { lifetimes = ([], tt); bytes-lent = lent bytes; asked = tt; learnt = refl }
+all-bytes-are-checked start bytes = in-call tt refl
 
 pub all-payloads-are-judged : (kind sequence : ℕ) (payload out : List ℕ)
     → Writes kind sequence payload out (writtenReport (writeFrame (length out) kind sequence payload))
     (putAt out 0 (writtenBytes (writeFrame (length out) kind sequence payload)))
-all-payloads-are-judged kind sequence payload out =
-    record {
-      lifetimes = ([], ([], tt));
-      payload-lent = lent payload;
-      output-lent = lent out;
-      output-left = lent (putAt out 0 (writtenBytes (writeFrame (length out) kind sequence payload)));
-      asked = tt;
-      learnt = record { reports = refl; frame = refl };
-    }
+all-payloads-are-judged kind sequence payload out = in-out-call tt (record { reports = refl; frame = refl })
 
 pub all-bytes-are-read : (bytes out : List ℕ)
     → Reads bytes out (readReport (readFrame (length out) bytes)) (putAt out 0 (readPayload (readFrame (length out) bytes)))
-all-bytes-are-read bytes out =
-    record {
-      lifetimes = ([], ([], tt));
-      bytes-lent = lent bytes;
-      output-lent = lent out;
-      output-left = lent (putAt out 0 (readPayload (readFrame (length out) bytes)));
-      asked = tt;
-      learnt = record { reports = refl; payload = refl };
-    }
+all-bytes-are-read bytes out = in-out-call tt (record { reports = refl; payload = refl })

@@ -14,7 +14,8 @@ use Rattle.refusals.specs.Numbers.{badName, badFragment}
 use Rattle.slices.specs.Pair.{pairOf}
 use Rattle.slices.specs.Put.{putAt}
 use Rattle.slices.proofs.PutLaws.{put-told}
-use Rattle.packet.specs.Items.{Item, inFront, emptyIfEof, eofsEmpty, ifEofsEmpty, itemsFilling, itemsOf, itemBytes, itemsBytes}
+use Rattle.slices.proofs.Lent.{Slice}
+use Rattle.packet.specs.Items.{Item, inFront, emptyIfEof, eofsEmpty, ifEofsEmpty, itemsFilling, itemsOf, itemBytes, itemsBytes, valueIn}
 use Rattle.packet.specs.Packet.{Packet, packet, isData, withItems, packetOf, judgedItems, packetItems, packetBytes}
 use Rattle.packet.specs.Names.{validName, validLocation}
 use Rattle.packet.specs.Answers.{readingOf}
@@ -27,9 +28,9 @@ use Rattle.packet.specs.declared.reading.Reading.{Reading}
 use Rattle.packet.specs.declared.reading.Reading.the-variants as reading
 use Rattle.packet.proofs.ItemLaws.{items-end, items-rule}
 use Rattle.packet.proofs.WriteLaws.{get-fits, file-fits, fetched-fits, stop-fits}
-use Rattle.packet.proofs.RequestCalls.{ReadPacketCall, PropertyGetCall, FileRequestCall, FetchedCall, StopCall, packet-was-read, get-was-written, file-was-written, fetched-was-written, stop-was-written}
+use Rattle.packet.proofs.RequestCalls.{ReadPacketCall, CountAllCall, ValueCall, PropertyGetCall, FileRequestCall, FetchedCall, StopCall, packet-was-read, items-were-counted, value-was-read, get-was-written, file-was-written, fetched-was-written, stop-was-written}
 
--- items as they are sent are filled by those items
+-- the bytes of items are read as those items
 pub items-back : (items : List Item) → itemsFilling (itemsBytes items) ≡ some items
 unfolding itemsBytes itemBytes inFront
 items-back [] = items-end
@@ -47,17 +48,26 @@ packet-back p empty =
     let head : isData (packetBytes p) ≡ true = rw long in
     rw (head, id, items-back (p .items), empty)
 
--- what bytes are read as: by the packet and item rules the packet, with the items that the contracts of `count_all`, `count`, `find`, `value`
--- and `behind` cite; by a call of `read_packet` its opcode and id
+-- what bytes are read as: by the packet and item rules the packet, with its items; by every call of `read_packet` its opcode and id, of
+-- `count_all` the number of its items, and of `value` the value of its first item of the kind
 pub record ReadAs (p : Packet) (bytes : List ℕ) : Type 0 where
   pub by-the-rules : packetOf bytes ≡ packet p
   pub items-are : packetItems bytes ≡ p .items
   pub by-a-call : (answer : Reading) → ReadPacketCall bytes answer → answer ≡ reading.Packet (p .opcode) (p .id)
+  pub counted : (answer : ℕ) → CountAllCall bytes answer → answer ≡ length (p .items)
+  pub value-read : (kind : ℕ) (answer : Slice) → ValueCall kind bytes answer → answer .now ≡ valueIn kind (p .items)
 
 read-as : (p : Packet) (bytes : List ℕ) → packetOf bytes ≡ packet p → ReadAs p bytes
 unfolding packetItems judgedItems readingOf
 read-as p bytes e =
-    record { by-the-rules = e; items-are = ap judgedItems e; by-a-call = λ answer c. packet-was-read c ∙ ap readingOf e }
+    let items : packetItems bytes ≡ p .items = ap judgedItems e in
+    record {
+      by-the-rules = e;
+      items-are = items;
+      by-a-call = λ answer c. packet-was-read c ∙ ap readingOf e;
+      counted = λ answer c. items-were-counted c ∙ ap length items;
+      value-read = λ kind answer c. value-was-read c ∙ ap (valueIn kind) items;
+    }
 
 -- the bytes that a writer put, read as a packet, whatever else the output holds
 written-back :

@@ -1,14 +1,14 @@
--- Calls of the packet reader and of the four request writers, by the contracts that the toolchain reads off the source (`Learnt`): what they
--- did, and that there are such calls, since the contracts ask nothing.
+-- Calls of the packet's readers and of the four request writers, by the contracts that the toolchain reads off the source (`Learnt`): what
+-- they did, and that there are such calls, since the contracts ask nothing.
 use mathlib.Core.Path.{_≡_, refl}
 use mathlib.Core.Bool.{true}
-use mathlib.Core.List.{List, []}
+use mathlib.Core.List.{List}
 use Prim.Native.Nat.{ℕ, _≤_}
-use contract.Lifetimes.{Lfts}
 use lib.ListN.{length}
 use Rattle.slices.specs.Put.{putAt}
-use Rattle.slices.proofs.Lent.{Lent, lent}
-use Rattle.packet.specs.Packet.{packetOf, packetBytes}
+use Rattle.slices.proofs.Lent.{Slice, lent, InCall, OutCall, InOutCall, in-call, out-call, in-out-call}
+use Rattle.packet.specs.Items.{valueIn}
+use Rattle.packet.specs.Packet.{packetOf, packetItems, packetBytes}
 use Rattle.packet.specs.Names.{validName, validLocation}
 use Rattle.packet.specs.Answers.{readingOf}
 use Rattle.packet.specs.Requests.{answerOf, bytesOf, Writes, getPacket, filePacket, fetchedPacket, stopPacket, propertyGet, fileRequest, fetchedRequest, stopRequest}
@@ -18,75 +18,70 @@ use Rattle.packet.specs.declared.requests.Written.{Written}
 use Rattle.packet.specs.declared.requests.Written.the-variants.{Length}
 use Rattle.packet.proofs.WriteLaws.{get-fits, file-fits, fetched-fits, stop-fits}
 use Rattle.packet.proofs.reading.read_packet.Reads as read-packet
+use Rattle.packet.proofs.reading.count_all.Reads as count-all
+use Rattle.packet.proofs.reading.value.Reads as value
 use Rattle.packet.proofs.requests.property_get.Reads as property-get
 use Rattle.packet.proofs.requests.file_request.Reads as file-request
 use Rattle.packet.proofs.requests.fetched.Reads as fetched
 use Rattle.packet.proofs.requests.stop.Reads as stop
 
-pub record ReadPacketCall (bytes : List ℕ) (answer : Reading) : Type 0 where
-  pub lifetimes : Lfts 1
-  pub bytes-lent : Lent bytes
-  pub asked : read-packet.Asked lifetimes (bytes-lent .slice, tt)
-  pub learnt : read-packet.Learnt lifetimes (bytes-lent .slice, tt) answer (bytes-lent .slice, tt)
+abbrev pub ReadPacketCall : (bytes : List ℕ) (answer : Reading) → Type 0
+ReadPacketCall = InCall read-packet.Asked read-packet.Learnt (λ bytes. (bytes, tt))
+
+abbrev pub CountAllCall : (bytes : List ℕ) (answer : ℕ) → Type 0
+CountAllCall = InCall count-all.Asked count-all.Learnt (λ bytes. (bytes, tt))
+
+abbrev pub ValueCall : (kind : ℕ) (bytes : List ℕ) (answer : Slice) → Type 0
+ValueCall kind = InCall value.Asked value.Learnt (λ bytes. (bytes, (kind, tt)))
 
 -- a writer is lent an output as it was before, and leaves it as it is after
-pub record PropertyGetCall (id : ℕ) (name before : List ℕ) (answer : Written) (after : List ℕ) : Type 0 where
-  pub lifetimes : Lfts 2
-  pub name-lent : Lent name
-  pub output-lent : Lent before
-  pub output-left : Lent after
-  pub asked : property-get.Asked lifetimes (id, (name-lent .slice, (output-lent .slice, tt)))
-  pub learnt :
-      property-get.Learnt lifetimes (id, (name-lent .slice, (output-lent .slice, tt))) answer (id, (name-lent .slice, (output-left .slice, tt)))
+abbrev pub PropertyGetCall : (id : ℕ) (name before : List ℕ) (answer : Written) (after : List ℕ) → Type 0
+PropertyGetCall id = InOutCall property-get.Asked property-get.Learnt (λ name output. (id, (name, (output, tt))))
 
-pub record FileRequestCall (id : ℕ) (location : List ℕ) (offset : Offset) (before : List ℕ) (answer : Written) (after : List ℕ) : Type 0 where
-  pub lifetimes : Lfts 2
-  pub location-lent : Lent location
-  pub output-lent : Lent before
-  pub output-left : Lent after
-  pub asked : file-request.Asked lifetimes (id, (location-lent .slice, (offset, (output-lent .slice, tt))))
-  pub learnt :
-      file-request.Learnt lifetimes (id, (location-lent .slice, (offset, (output-lent .slice, tt)))) answer
-      (id, (location-lent .slice, (offset, (output-left .slice, tt))))
+abbrev pub FileRequestCall : (id : ℕ) (location : List ℕ) (offset : Offset) (before : List ℕ) (answer : Written) (after : List ℕ) → Type 0
+FileRequestCall id location offset =
+    InOutCall file-request.Asked file-request.Learnt (λ lent output. (id, (lent, (offset, (output, tt))))) location
 
-pub record FetchedCall (id : ℕ) (location before : List ℕ) (answer : Written) (after : List ℕ) : Type 0 where
-  pub lifetimes : Lfts 2
-  pub location-lent : Lent location
-  pub output-lent : Lent before
-  pub output-left : Lent after
-  pub asked : fetched.Asked lifetimes (id, (location-lent .slice, (output-lent .slice, tt)))
-  pub learnt :
-      fetched.Learnt lifetimes (id, (location-lent .slice, (output-lent .slice, tt))) answer (id, (location-lent .slice, (output-left .slice, tt)))
+abbrev pub FetchedCall : (id : ℕ) (location before : List ℕ) (answer : Written) (after : List ℕ) → Type 0
+FetchedCall id = InOutCall fetched.Asked fetched.Learnt (λ location output. (id, (location, (output, tt))))
 
-pub record StopCall (id : ℕ) (before : List ℕ) (answer : Written) (after : List ℕ) : Type 0 where
-  pub lifetimes : Lfts 1
-  pub output-lent : Lent before
-  pub output-left : Lent after
-  pub asked : stop.Asked lifetimes (id, (output-lent .slice, tt))
-  pub learnt : stop.Learnt lifetimes (id, (output-lent .slice, tt)) answer (id, (output-left .slice, tt))
+abbrev pub StopCall : (id : ℕ) (before : List ℕ) (answer : Written) (after : List ℕ) → Type 0
+StopCall id = OutCall stop.Asked stop.Learnt (λ output. (id, (output, tt)))
 
 -- what such calls did, by the contracts
 pub packet-was-read : {bytes : List ℕ} {answer : Reading} → ReadPacketCall bytes answer → answer ≡ readingOf (packetOf bytes)
-packet-was-read c = rw (c .bytes-lent .holds) at (c .learnt)
+packet-was-read c = rw (c .input-lent .holds) at (c .learnt)
+
+pub items-were-counted : {bytes : List ℕ} {answer : ℕ} → CountAllCall bytes answer → answer ≡ length (packetItems bytes)
+items-were-counted c = rw (c .input-lent .holds) at (c .learnt)
+
+pub value-was-read : {kind : ℕ} {bytes : List ℕ} {answer : Slice} → ValueCall kind bytes answer → answer .now ≡ valueIn kind (packetItems bytes)
+value-was-read c = rw (c .input-lent .holds) at (c .learnt)
 
 module _ {id : ℕ} {before : List ℕ} {answer : Written} {after : List ℕ} where
   pub get-was-written : {name : List ℕ} → PropertyGetCall id name before answer after → Writes (propertyGet id name (length before)) before after answer
-  get-was-written c = rw (c .name-lent .holds, c .output-lent .holds, c .output-left .holds) at (c .learnt)
+  get-was-written c = rw (c .input-lent .holds, c .output-lent .holds, c .output-left .holds) at (c .learnt)
 
   pub file-was-written : {location : List ℕ} {offset : Offset} → FileRequestCall id location offset before answer after
       → Writes (fileRequest id location offset (length before)) before after answer
-  file-was-written c = rw (c .location-lent .holds, c .output-lent .holds, c .output-left .holds) at (c .learnt)
+  file-was-written c = rw (c .input-lent .holds, c .output-lent .holds, c .output-left .holds) at (c .learnt)
 
   pub fetched-was-written : {location : List ℕ} → FetchedCall id location before answer after
       → Writes (fetchedRequest id location (length before)) before after answer
-  fetched-was-written c = rw (c .location-lent .holds, c .output-lent .holds, c .output-left .holds) at (c .learnt)
+  fetched-was-written c = rw (c .input-lent .holds, c .output-lent .holds, c .output-left .holds) at (c .learnt)
 
   pub stop-was-written : StopCall id before answer after → Writes (stopRequest id (length before)) before after answer
   stop-was-written c = rw (c .output-lent .holds, c .output-left .holds) at (c .learnt)
 
--- there is a call of the reader for all bytes
+-- there is a call of each reader for all bytes
 pub all-bytes-are-read : (bytes : List ℕ) → ReadPacketCall bytes (readingOf (packetOf bytes))
-all-bytes-are-read bytes = record { lifetimes = ([], tt); bytes-lent = lent bytes; asked = tt; learnt = refl }
+all-bytes-are-read bytes = in-call tt refl
+
+pub all-items-are-counted : (bytes : List ℕ) → CountAllCall bytes (length (packetItems bytes))
+all-items-are-counted bytes = in-call tt refl
+
+pub every-value-is-read : (kind : ℕ) (bytes : List ℕ) → ValueCall kind bytes (lent (valueIn kind (packetItems bytes)) .slice)
+every-value-is-read kind bytes = in-call tt refl
 
 -- and one of each writer that writes its packet, for every valid name or location and every output with room
 module _ (id : ℕ) (before : List ℕ) where
@@ -94,50 +89,22 @@ module _ (id : ℕ) (before : List ℕ) where
       → PropertyGetCall id name before (Length (length (packetBytes (getPacket id name)))) (putAt before 0 (packetBytes (getPacket id name)))
   unfolding answerOf bytesOf
   every-get-is-written name valid room =
-      record {
-        lifetimes = ([], ([], tt));
-        name-lent = lent name;
-        output-lent = lent before;
-        output-left = lent (putAt before 0 (packetBytes (getPacket id name)));
-        asked = tt;
-        learnt = rw (get-fits id name (length before) valid room) (record { answered = refl; bytes = refl });
-      }
+      in-out-call tt (rw (get-fits id name (length before) valid room) (record { answered = refl; bytes = refl }))
 
   pub every-file-request-is-written : (location : List ℕ) (offset : Offset) → validLocation location ≡ true
       → length (packetBytes (filePacket id location offset)) ≤ length before
       → FileRequestCall id location offset before (Length (length (packetBytes (filePacket id location offset)))) (putAt before 0 (packetBytes (filePacket id location offset)))
   unfolding answerOf bytesOf
   every-file-request-is-written location offset valid room =
-      record {
-        lifetimes = ([], ([], tt));
-        location-lent = lent location;
-        output-lent = lent before;
-        output-left = lent (putAt before 0 (packetBytes (filePacket id location offset)));
-        asked = tt;
-        learnt = rw (file-fits id location offset (length before) valid room) (record { answered = refl; bytes = refl });
-      }
+      in-out-call tt (rw (file-fits id location offset (length before) valid room) (record { answered = refl; bytes = refl }))
 
   pub every-fetched-is-written : (location : List ℕ) → validLocation location ≡ true → length (packetBytes (fetchedPacket id location)) ≤ length before
       → FetchedCall id location before (Length (length (packetBytes (fetchedPacket id location)))) (putAt before 0 (packetBytes (fetchedPacket id location)))
   unfolding answerOf bytesOf
   every-fetched-is-written location valid room =
-      record {
-        lifetimes = ([], ([], tt));
-        location-lent = lent location;
-        output-lent = lent before;
-        output-left = lent (putAt before 0 (packetBytes (fetchedPacket id location)));
-        asked = tt;
-        learnt = rw (fetched-fits id location (length before) valid room) (record { answered = refl; bytes = refl });
-      }
+      in-out-call tt (rw (fetched-fits id location (length before) valid room) (record { answered = refl; bytes = refl }))
 
   pub every-stop-is-written : length (packetBytes (stopPacket id)) ≤ length before
       → StopCall id before (Length (length (packetBytes (stopPacket id)))) (putAt before 0 (packetBytes (stopPacket id)))
   unfolding answerOf bytesOf
-  every-stop-is-written room =
-      record {
-        lifetimes = ([], tt);
-        output-lent = lent before;
-        output-left = lent (putAt before 0 (packetBytes (stopPacket id)));
-        asked = tt;
-        learnt = rw (stop-fits id (length before) room) (record { answered = refl; bytes = refl });
-      }
+  every-stop-is-written room = out-call tt (rw (stop-fits id (length before) room) (record { answered = refl; bytes = refl }))

@@ -80,7 +80,7 @@ module _ (first : List ℕ) (held : Held) (holds : Holds first held) (bytes : Li
 calls-hold : (first : List ℕ) (held end : Held) (packets : List (List ℕ)) → Holds first held → Calls held packets end → Holds first end
 calls-hold first held end packets holds (none same) = holds
 calls-hold first held end packets holds (call same last bytes after outcome more takes calls) =
-    calls-hold first (left held bytes after outcome) end more (call-holds first held holds bytes after outcome (was-taken takes)) calls
+    calls-hold first (left held bytes after outcome) end more (call-holds first held holds bytes after outcome (was-taken held takes)) calls
 
 -- a transfer that has just been started, whether its location is valid or not
 start-holds : (location file : List ℕ) → Holds file (started (startOf location) file)

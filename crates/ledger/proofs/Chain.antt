@@ -6,7 +6,7 @@ use Prim.Native.Nat.{ℕ}
 use lib.ListN.{length}
 use contract.Lifetimes.{Lfts}
 use Rattle.slices.specs.Put.{putAt}
-use Rattle.slices.proofs.Lent.{Lent, lent}
+use Rattle.slices.proofs.Lent.{Lent, lent, InCall}
 use Rattle.rows.specs.declared.Board.{Board}
 use Rattle.rows.proofs.fresh.Reads as fresh
 use Rattle.board.specs.declared.list.Listed.the-variants.{Accepted}
@@ -44,19 +44,12 @@ Ticks d d₁ = tick.Learnt tt (d, tt) d₁ (d, tt)
 abbrev pub Starts : Board → Display → Type 0
 Starts board d = start.Learnt tt (board, tt) d (board, tt)
 
--- one call of `board::watch` with a name
-pub record Watches (board : Board) (name : List ℕ) (watched : Watched) : Type 0 where
-  pub lifetimes : Lfts 1
-  pub name-lent : Lent name
-  pub asked : watch.Asked lifetimes (board, (name-lent .slice, tt))
-  pub learnt : watch.Learnt lifetimes (board, (name-lent .slice, tt)) watched (board, (name-lent .slice, tt))
+-- one call of `board::watch`, and of `board::watch_list`
+abbrev pub Watches : (board : Board) (name : List ℕ) (watched : Watched) → Type 0
+Watches board = InCall watch.Asked watch.Learnt (λ name. (board, (name, tt)))
 
--- one call of `board::watch_list`
-pub record Lists (fields : List ℕ) (watched : Watched) : Type 0 where
-  pub lifetimes : Lfts 1
-  pub list-lent : Lent fields
-  pub asked : watch-list.Asked lifetimes (list-lent .slice, tt)
-  pub learnt : watch-list.Learnt lifetimes (list-lent .slice, tt) watched (list-lent .slice, tt)
+abbrev pub Lists : (fields : List ℕ) (watched : Watched) → Type 0
+Lists = InCall watch-list.Asked watch-list.Learnt (λ fields. (fields, tt))
 
 -- A fresh start. A list as bytes: `board::watch_list` accepted it, and `display::start` was given its board. Names one at a time, as
 -- `replay` takes them: `rows::fresh`, then `board::watch` accepted each name on the board of those before it, and `display::start` was

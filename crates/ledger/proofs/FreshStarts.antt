@@ -5,7 +5,7 @@ use mathlib.Core.List.{List, [], _∷_, _++_, append-assoc, append-nil}
 use mathlib.Core.Option.{Option, some, none}
 use Prim.Native.Nat.{ℕ}
 use native.Mathlib.Omega.{arith}
-use Rattle.slices.proofs.Lent.{lent}
+use Rattle.slices.proofs.Lent.{in-call}
 use Rattle.rows.specs.Rows.{boardOf}
 use Rattle.rows.specs.declared.Board.{Board}
 use Rattle.board.specs.WatchList.{Good, watchNames, fieldsOf, watchBoard, asWatched, acceptedWith}
@@ -58,13 +58,13 @@ some-names e = cc
 
 pub began : (w : WatchList) (d : Display) → Begins w d → Began w d
 began (as-bytes fields) d (from-bytes {watched = watched} lists accepted started) =
-    from-list fields watched d (rw (lists .list-lent .holds) at (lists .learnt)) accepted started
+    from-list fields watched d (rw (lists .input-lent .holds) at (lists .learnt)) accepted started
 began (one-by-one ns) d (no-names made started) =
     record { names = []; listed = refl; good = good-none; is = started ∙ ap display.fresh made }
 began (one-by-one ns) d (one-more {names = names} {name = name} {watched = watched} {d = d₀} before watches accepted started) =
     let so-far = began (one-by-one names) d₀ before in
     let same = some-names (so-far .listed) in
-    let told : watched ≡ watchBoard (d₀ .board) name = rw (watches .name-lent .holds) at (watches .learnt) in
+    let told : watched ≡ watchBoard (d₀ .board) name = rw (watches .input-lent .holds) at (watches .learnt) in
     let board-is : d₀ .board ≡ boardOf names = ap (λ (x : Display). x .board) (so-far .is) ∙ ap boardOf same in
     let j = joined names name (d₀ .board) watched (rw same at (so-far .good)) board-is told accepted in
     record { names = names ++ (name ∷ []); listed = refl; good = j .good; is = started ∙ ap display.fresh (j .is) }
@@ -72,7 +72,7 @@ began (one-by-one ns) d (one-more {names = names} {name = name} {watched = watch
 -- THEOREM. Every call of `board::watch_list` with the fields of a good list of names is accepted, with the board of the names.
 pub good-list-accepted : (names : List (List ℕ)) → Good names → (watched : Watched) → Lists (fieldsOf names) watched → watched ≡ acceptedWith (boardOf names)
 good-list-accepted names good watched lists =
-    let told : watched ≡ asWatched (watchNames (fieldsOf names)) = rw (lists .list-lent .holds) at (lists .learnt) in
+    let told : watched ≡ asWatched (watchNames (fieldsOf names)) = rw (lists .input-lent .holds) at (lists .learnt) in
     told ∙ ap asWatched (good-listed names good)
 
 -- THEOREM. Every call of `board::watch` with a name that makes a good list with those before it is accepted, with the board of all of them.
@@ -81,17 +81,14 @@ pub good-name-accepted : (names : List (List ℕ)) (name : List ℕ) (d : Displa
 good-name-accepted names name d begins good watched watches =
     let b = began (one-by-one names) d begins in
     let same = some-names (b .listed) in
-    let told : watched ≡ watchBoard (d .board) name = rw (watches .name-lent .holds) at (watches .learnt) in
+    let told : watched ≡ watchBoard (d .board) name = rw (watches .input-lent .holds) at (watches .learnt) in
     let board-is : d .board ≡ boardOf names = ap (λ (x : Display). x .board) (b .is) ∙ ap boardOf same in
     told ∙ ap (λ (x : Board). watchBoard x name) board-is ∙ watch-more names name (rw same at (b .good)) (may-join name [] names good)
 
 -- THEOREM. From every list that is accepted there is a fresh start.
 pub accepted-begins : (fields : List ℕ) (names : List (List ℕ)) → watchNames fields ≡ some names → Begins (as-bytes fields) (display.fresh (boardOf names))
 accepted-begins fields names e =
-    from-bytes
-    (record { lifetimes = ([], tt); list-lent = lent fields; asked = tt; learnt = ap asWatched (sym e) })
-    refl
-    refl
+    from-bytes (in-call tt (ap asWatched (sym e))) refl refl
 
 -- THEOREM. From every good list of names there is a fresh start, by the bytes of its fields.
 pub good-begins : (names : List (List ℕ)) → Good names → Begins (as-bytes (fieldsOf names)) (display.fresh (boardOf names))
@@ -106,7 +103,7 @@ names-begin before (name ∷ names) good all begins =
     let behind : before ++ (name ∷ []) ++ names ≡ before ++ (name ∷ names) = append-assoc before (name ∷ []) names in
     let with-name =
     one-more begins
-    (record { lifetimes = ([], tt); name-lent = lent name; asked = tt; learnt = sym (watch-more before name good joins) })
+    (in-call tt (sym (watch-more before name good joins)))
     refl
     refl in
     rw behind at (names-begin (before ++ (name ∷ [])) names (good-more before name good joins) (rw behind all) with-name)

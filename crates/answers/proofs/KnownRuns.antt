@@ -1,10 +1,10 @@
 -- 01, Known answers, run and compared: the frame of case 6 with sequence 01 sent twice, with a tick between. The theorems over every list of
--- calls are about something there, since both sides compute to the same: the second frame is repeated at once, and every display that was
--- given these calls shows 3450 with age 1.
+-- calls apply here, since their premises compute: every display that is given these calls drops the second frame, and shows 3450 with age 1.
 use mathlib.Core.Path.{_≡_, refl, ap}
 use mathlib.Core.List.{List, [], _∷_, map}
 use mathlib.Core.Option.{some}
 use Prim.Native.Nat.{ℕ}
+use native.Mathlib.Omega.{arith}
 use lib.IntN.{pos}
 use lib.ListN.{replicate}
 use Rattle.slices.specs.Each.{each}
@@ -23,17 +23,20 @@ use Rattle.rows.specs.declared.Board.{Board}
 use Rattle.rows.specs.declared.State.the-variants.{Current}
 use Rattle.value.specs.Value.{numberOf, valueOf}
 use Rattle.board.specs.Reading.{taskOfItems, taskOf, valueOfItem, withValue, withName, verdictOf, ifWatched, readingOf}
+use Rattle.link.specs.declared.counts.Counts.{Counts}
 use Rattle.display.specs.declared.Display.{Display}
 use Rattle.ledger.specs.Ledger.{moreAt, updated, start}
 use Rattle.ledger.specs.Frames.{turn, taken, frameOf, good}
 use Rattle.ledger.specs.Answers.{one-by-one, Call, piece, tick}
 use Rattle.ledger.specs.Calls.{step, given, after}
 use Rattle.ledger.specs.Shown.{Left, asLeft}
-use Rattle.ledger.specs.History.{Event, eventsOf, history}
+use Rattle.ledger.specs.History.{eventsOf, history}
 use Rattle.ledger.specs.ClosedFrames.{framesFrom, Closes, dataSequences, lastFrom, lastSequence}
 use Rattle.ledger.specs.LastAccepted.{rowAt}
 use Rattle.ledger.proofs.Chain.{Begins, Chain}
-use Rattle.ledger.proofs.EveryList.{agreeing}
+use Rattle.ledger.proofs.EveryList.{chain-agrees, agreeing}
+use Rattle.ledger.proofs.SameHistory.{next-given}
+use Rattle.ledger.proofs.AtOnce.{Dropped, repeated-at-once}
 
 abbrev names : List (List ℕ)
 names = (0x68 ∷ 0x31 ∷ []) ∷ []
@@ -47,22 +50,48 @@ sent = piece (writing.frameOf 0x01 0x01 payload) (replicate 9 0) (replicate 383 
 abbrev cs : List Call
 cs = sent ∷ tick ∷ []
 
+abbrev all : List Call
+all = sent ∷ tick ∷ sent ∷ []
+
+-- what the ledger says of the first two calls, and of the third
 abbrev left : List Left
 left = map (asLeft names) (given (start names) cs)
 
 abbrev more : Left
 more = asLeft names (step (after (start names) cs) sent .given)
 
-pub record Repeated (events further : List Event) : Type 0 where
-  pub closes : Closes events further (good 0x01 payload)
-  pub last : lastSequence events ≡ some 0x01
-
-pub repeated-is-there : Repeated (history cs left) (eventsOf sent more)
+last-is : lastSequence (history cs left) ≡ some 0x01
 unfolding given history framesFrom dataSequences lastFrom crcOf addByte shiftBits shiftBit each contentOf framed unstuffFrom unstuff judged readRun turn taken frameOf step after moreAt updated readingOf ifWatched verdictOf withName withValue valueOfItem taskOf taskOfItems valueOf numberOf placeFrom sameBytes packetOf isData withItems itemsOf ifEofsEmpty itemsFilling itemsUpTo inFront eofsEmpty emptyIfEof countOf firstOf behindOf headOf validName between isLetter isNameByte allNameBytes
-repeated-is-there = record { closes = refl; last = refl }
+last-is = refl
 
-pub value-is-shown : (d end : Display) (all : List Left) → Begins (one-by-one names) d → Chain d (sent ∷ tick ∷ sent ∷ []) all end
-    → rowAt (end .board) 0 .state ≡ Current (pos 3450) 1
+closes : Closes (history cs left) (eventsOf sent more) (good 0x01 payload)
+unfolding given history framesFrom crcOf addByte shiftBits shiftBit each contentOf framed unstuffFrom unstuff judged readRun turn taken frameOf step after moreAt updated readingOf ifWatched verdictOf withName withValue valueOfItem taskOf taskOfItems valueOf numberOf placeFrom sameBytes packetOf isData withItems itemsOf ifEofsEmpty itemsFilling itemsUpTo inFront eofsEmpty emptyIfEof countOf firstOf behindOf headOf validName between isLetter isNameByte allNameBytes
+closes = refl
+
+-- THEOREM. Every display that is given these calls drops the second frame: it is answered again, and the board is as it was.
+pub second-is-dropped : (d end end₁ : Display) (left₁ : List Left) (more₁ : Left) → Begins (one-by-one names) d → Chain d cs left₁ end
+    → Chain end (sent ∷ []) (more₁ ∷ []) end₁ → Dropped 0x01 (replicate 9 0) (replicate 383 0) end more₁ end₁
+second-is-dropped d end end₁ left₁ more₁ begins chain next =
+    let a = agreeing refl begins chain in
+    let one = chain-agrees names (a .fit) (after (start names) cs) next (a .all .agrees) in
+    let gives : left₁ ≡ left = a .all .gives in
+    let given-next : more₁ ≡ more = next-given names (after (start names) cs) sent more₁ (one .gives) in
+    repeated-at-once names (one-by-one names) refl d begins cs left₁ end chain (writing.frameOf 0x01 0x01 payload) (replicate 9 0) (replicate 383 0) more₁ end₁ next
+    0x01 payload (rw (gives, given-next) closes)
+    .repeated (rw gives last-is) (λ zero. omega arith)
+
+-- THEOREM. After them it shows 3450 with age 1, and has counted new 1 and again 1.
+pub record Shows (end : Display) : Type 0 where
+  pub state : rowAt (end .board) 0 .state ≡ Current (pos 3450) 1
+  pub new : end .link .counts .new ≡ 1
+  pub again : end .link .counts .again ≡ 1
+
+pub value-is-shown : (d end : Display) (left₁ : List Left) → Begins (one-by-one names) d → Chain d all left₁ end → Shows end
 unfolding crcOf addByte shiftBits shiftBit each contentOf framed unstuffFrom unstuff judged readRun turn taken frameOf step after moreAt updated readingOf ifWatched verdictOf withName withValue valueOfItem taskOf taskOfItems valueOf numberOf placeFrom sameBytes packetOf isData withItems itemsOf ifEofsEmpty itemsFilling itemsUpTo inFront eofsEmpty emptyIfEof countOf firstOf behindOf headOf validName between isLetter isNameByte allNameBytes
-value-is-shown d end all begins chain =
-    ap (λ (b : Board). rowAt b 0 .state) (agreeing refl begins chain .all .agrees .shows .showing)
+value-is-shown d end left₁ begins chain =
+    let agrees = agreeing refl begins chain .all .agrees in
+    record {
+      state = ap (λ (b : Board). rowAt b 0 .state) (agrees .shows .showing);
+      new = ap (λ (c : Counts). c .new) (agrees .counts-are);
+      again = ap (λ (c : Counts). c .again) (agrees .counts-are);
+    }

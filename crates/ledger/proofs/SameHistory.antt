@@ -10,7 +10,7 @@ use Rattle.ledger.specs.Ledger.{Ledger, start}
 use Rattle.ledger.specs.Answers.{WatchList, namesIn, Call, Answer}
 use Rattle.ledger.specs.Calls.{step, given, after}
 use Rattle.ledger.specs.Shown.{asCounts, asEntry, asAnswer, Left, asLeft}
-use Rattle.ledger.specs.History.{Event, history, allHanded, allTold}
+use Rattle.ledger.specs.History.{Event, history, allHanded, allAnswers}
 use Rattle.ledger.proofs.Chain.{Begins, Chain}
 use Rattle.ledger.proofs.EveryList.{chain-agrees, Agreeing, agreeing}
 use Rattle.ledger.proofs.ByEvents.{afterHistory, toldInHistory}
@@ -26,7 +26,7 @@ pub record SameNext (more more₁ : Left) (then then₁ : Display) : Type 0 wher
 -- two displays after a list of calls each: what the calls left, and what one more call leaves
 pub record Alike (left left₁ : List Left) (end end₁ : Display) : Type 0 where
   -- all answers in order, but "nothing" and refusal 7
-  pub told : allTold left ≡ allTold left₁
+  pub answers : allAnswers left ≡ allAnswers left₁
   -- replies and packets in order, as they stand in the buffers
   pub handed : allHanded left ≡ allHanded left₁
   pub counts : end .link .counts ≡ end₁ .link .counts
@@ -67,11 +67,11 @@ module _ (names : List (List ℕ)) where
     alike : Alike left left₁ end end₁
     alike =
         record {
-          told =
-              ap allTold (one .all .gives)
+          answers =
+              ap allAnswers (one .all .gives)
               ∙ all-told names (start names) cs
               ∙ ap (λ (all : List Answer). map (asAnswer names) all) same-told
-              ∙ sym (ap allTold (two .all .gives) ∙ all-told names (start names) cs₁);
+              ∙ sym (ap allAnswers (two .all .gives) ∙ all-told names (start names) cs₁);
           handed =
               ap allHanded (one .all .gives)
               ∙ all-handed names (start names) cs

@@ -12,7 +12,7 @@ use Rattle.ledger.specs.Answers as answers
 use Rattle.ledger.specs.Answers.{Call, Given, Answer}
 use Rattle.ledger.specs.Calls.{step, given}
 use Rattle.ledger.specs.Shown.{asAnswer, asLeft}
-use Rattle.ledger.specs.History.{Handed, allHanded, toldAs, toldLeft, allTold}
+use Rattle.ledger.specs.History.{Handed, allHanded, answersAs, answersLeft, allAnswers}
 use Rattle.ledger.proofs.ByEvents.{toldBy}
 use Rattle.ledger.proofs.HistoryLaws.{toldIn, toldOut}
 use Rattle.ledger.proofs.HandedLaws.{handedBy, handedIn, step-handed}
@@ -53,7 +53,7 @@ module _ (names : List (List ℕ)) where
       ∙ sym (handed-append (toldIn (step l c .given)) (toldOut names (step l c .ledger) cs))
 
   -- what the software tells of an answer
-  answer-told : (a : Answer) → toldAs (asAnswer names a) ≡ map (asAnswer names) (toldBy a)
+  answer-told : (a : Answer) → answersAs (asAnswer names a) ≡ map (asAnswer names) (toldBy a)
   answer-told answers.nothing = refl
   answer-told (answers.refused n) = by-number (eqb n shortOutput)
     where
@@ -64,12 +64,12 @@ module _ (names : List (List ℕ)) where
   answer-told (answers.again sequence) = refl
   answer-told (answers.new sequence payload verdict) = refl
 
-  given-told : (g : Given) → toldLeft (asLeft names g) ≡ map (asAnswer names) (toldIn g)
+  given-told : (g : Given) → answersLeft (asLeft names g) ≡ map (asAnswer names) (toldIn g)
   given-told (answers.took n answer reply packet) = answer-told answer
   given-told answers.ticked = refl
 
-  pub all-told : (l : Ledger) (cs : List Call) → allTold (map (asLeft names) (given l cs)) ≡ map (asAnswer names) (toldOut names l cs)
-  unfolding allTold given toldOut
+  pub all-told : (l : Ledger) (cs : List Call) → allAnswers (map (asLeft names) (given l cs)) ≡ map (asAnswer names) (toldOut names l cs)
+  unfolding allAnswers given toldOut
   all-told l [] = refl
   all-told l (c ∷ cs) =
       ap₂ (λ (x y : List display-answer.Answer). x ++ y) (given-told (step l c .given)) (all-told (step l c .ledger) cs)

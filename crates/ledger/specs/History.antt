@@ -59,18 +59,18 @@ handedUp [] = []
 handedUp (handed ∷ more) = withPacket (handed .packet) (handedUp more)
 
 -- the answers that do not depend on where a piece was cut: all but "nothing", and refusal 7, after which nothing was taken
-abbrev pub toldAs : Answer → List Answer
-toldAs Nothing = []
-toldAs (Refused n) = cond (eqb n shortOutput) [] (Refused n ∷ [])
-toldAs (Heard sequence) = Heard sequence ∷ []
-toldAs (Again replied) = Again replied ∷ []
-toldAs (New replied size verdict) = New replied size verdict ∷ []
+abbrev pub answersAs : Answer → List Answer
+answersAs Nothing = []
+answersAs (Refused n) = cond (eqb n shortOutput) [] (Refused n ∷ [])
+answersAs (Heard sequence) = Heard sequence ∷ []
+answersAs (Again replied) = Again replied ∷ []
+answersAs (New replied size verdict) = New replied size verdict ∷ []
 
-abbrev pub toldLeft : Left → List Answer
-toldLeft (took n answer reply packet) = toldAs answer
-toldLeft ticked = []
+abbrev pub answersLeft : Left → List Answer
+answersLeft (took n answer reply packet) = answersAs answer
+answersLeft ticked = []
 
 -- all such answers of a list of calls, in order
-unfoldable pub allTold : List Left → List Answer
-allTold [] = []
-allTold (left ∷ more) = toldLeft left ++ allTold more
+unfoldable pub allAnswers : List Left → List Answer
+allAnswers [] = []
+allAnswers (left ∷ more) = answersLeft left ++ allAnswers more

@@ -29,10 +29,9 @@ use Rattle.ledger.specs.Ledger.{moreAt, updated, start}
 use Rattle.ledger.specs.Frames.{turn, taken, frameOf, good}
 use Rattle.ledger.specs.Answers.{one-by-one, Call, piece, tick}
 use Rattle.ledger.specs.Calls.{step, given, after}
-use Rattle.ledger.specs.Shown.{Left, asLeft}
+use Rattle.ledger.specs.Shown.{Left, asLeft, rowAt}
 use Rattle.ledger.specs.History.{eventsOf, history}
 use Rattle.ledger.specs.ClosedFrames.{framesFrom, Closes, dataSequences, lastFrom, lastSequence}
-use Rattle.ledger.specs.LastAccepted.{rowAt}
 use Rattle.ledger.proofs.Chain.{Begins, Chain}
 use Rattle.ledger.proofs.EveryList.{chain-agrees, agreeing}
 use Rattle.ledger.proofs.SameHistory.{next-given}

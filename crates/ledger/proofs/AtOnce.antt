@@ -25,7 +25,7 @@ use Rattle.ledger.specs.Answers as given
 use Rattle.ledger.specs.Answers.{WatchList, namesIn, Call, piece}
 use Rattle.ledger.specs.Calls as calls
 use Rattle.ledger.specs.Calls.{Effect, answerTo, repeated, closed, withRun, step, after}
-use Rattle.ledger.specs.Shown.{asCounts, asEntry, asPlace, asReading, Left, took, asLeft}
+use Rattle.ledger.specs.Shown.{asCounts, asEntry, asUpdated, asReading, Left, took, asLeft}
 use Rattle.ledger.specs.History.{eventsOf, history}
 use Rattle.ledger.specs.ClosedFrames.{framesFrom, framesIn, Closes, lastSequence}
 use Rattle.ledger.proofs.CountAgreement.{count-new, count-again, count-unread}
@@ -66,7 +66,7 @@ read-counts names l sequence (reading.refused n) = ap (countOf event.Unread) (co
 read-counts names l sequence reading.endMark = count-new (l .counts)
 read-counts names l sequence (reading.update name value) = by-place (placeOf name names)
   where
-    by-place : (o : Option ℕ) → countRead (asPlace o) (asCounts (l .counts)) ≡ asCounts (calls.afterNew l sequence .counts)
+    by-place : (o : Option ℕ) → countRead (asUpdated o) (asCounts (l .counts)) ≡ asCounts (calls.afterNew l sequence .counts)
     by-place (some place) = count-new (l .counts)
     by-place none = count-new (l .counts)
 

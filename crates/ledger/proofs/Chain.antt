@@ -115,6 +115,13 @@ next-piece d bytes reply packet lifetimes = tt
 pub next-tick : (d : Display) → tick.Asked tt (d, tt)
 next-tick d = tt
 
+-- nor before a start
+pub next-start : (board : Board) → start.Asked tt (board, tt)
+next-start board = tt
+
+pub next-fresh : fresh.Asked tt tt
+next-fresh = tt
+
 -- one list of calls behind the other
 pub chain-append : {d e f : Display} {cs ds : List Call} {left more : List Left} → Chain d cs left e → Chain e ds more f → Chain d (cs ++ ds) (left ++ more) f
 chain-append done rest = rest

@@ -20,10 +20,10 @@ use Rattle.rows.specs.declared.State.the-variants.{Never, Current, Silent}
 use Rattle.display.specs.declared.Display.{Display}
 use Rattle.ledger.specs.Ledger.{rowOf, current, silent}
 use Rattle.ledger.specs.Answers.{WatchList, namesIn, Call}
-use Rattle.ledger.specs.Shown.{asState, Left}
+use Rattle.ledger.specs.Shown.{asState, Left, rowAt}
 use Rattle.ledger.specs.History.{history}
 use Rattle.ledger.specs.BoardEvents.{BoardEvent, boardEventsIn}
-use Rattle.ledger.specs.LastAccepted.{allAccepted, LastAccepted, rowAt}
+use Rattle.ledger.specs.LastAccepted.{allAccepted, LastAccepted}
 use Rattle.ledger.proofs.Chain.{Begins, Chain}
 use Rattle.ledger.proofs.EveryList.{agreeing}
 use Rattle.ledger.proofs.UpdateLaws.{lastUpdate}

@@ -40,7 +40,7 @@ use Rattle.ledger.specs.Frames.{Frame, byType}
 use Rattle.ledger.specs.Answers as answers
 use Rattle.ledger.specs.Calls as calls
 use Rattle.ledger.specs.Calls.{Effect, repeated, closed, afterNew, afterReading}
-use Rattle.ledger.specs.Shown.{asCounts, asEntry, asPlace, asReading, asAnswer}
+use Rattle.ledger.specs.Shown.{asCounts, asEntry, asUpdated, asReading, asAnswer}
 use Rattle.ledger.proofs.CountAgreement.{count-new, count-again, count-heard, count-unread, count-refused}
 use Rattle.ledger.proofs.RowAgreement.{entries-updated, names-updated, names-shown, place-listed}
 
@@ -191,7 +191,7 @@ module _ (names : List (List ℕ)) (fit : Fits names) (w : Walk) (l : Ledger) (b
     update-agrees : (name : List ℕ) (value : ℤ) (t : There board name)
         → AgreedBy (record { board = updateBoard (t .place) value board; answer = board-says.Updated (t .place) }) (reading.update name value)
     update-agrees name value t =
-        let here = ap asPlace (place-is name t) in
+        let here = ap asUpdated (place-is name t) in
         let stands = ap (λ (b : Board). placeOf name (rowNames b)) (sym (shows₀ .showing)) ∙ t .stands in
         read-agrees _ (reading.update name value) (callOf w fresh .link) refl (sym here) refl refl refl (count-new (l .counts))
         (record {

@@ -16,7 +16,7 @@ use Rattle.ledger.specs.Answers.{WatchList, namesIn, Call, Answer}
 use Rattle.ledger.specs.Calls as calls
 use Rattle.ledger.specs.Calls.{repeated, closed, withRun}
 use Rattle.ledger.specs.Shown.{Left}
-use Rattle.ledger.specs.History.{Event, byte, minute, history, Handed, withPacket, handedUp, allHanded}
+use Rattle.ledger.specs.History.{Event, byte, minute, history, Handed, withPacket, packetsHanded, allHanded}
 use Rattle.ledger.specs.BoardEvents.{BoardEvent, packet, behindFrame, behindByte, boardEventsFrom, boardEventsIn, packetsIn}
 use Rattle.ledger.proofs.StepAgreement.{run-kept}
 use Rattle.ledger.proofs.Chain.{Begins, Chain}
@@ -25,27 +25,27 @@ use Rattle.ledger.proofs.ByEvents.{toldBy, atTurn, happens, toldInHisto
 use Rattle.ledger.proofs.ToldLaws.{handedWith, handed-append, all-handed}
 use Rattle.ledger.proofs.SameHistory.{told-by}
 
-up-append : (xs ys : List Handed) → handedUp (xs ++ ys) ≡ handedUp xs ++ handedUp ys
-unfolding handedUp
+up-append : (xs ys : List Handed) → packetsHanded (xs ++ ys) ≡ packetsHanded xs ++ packetsHanded ys
+unfolding packetsHanded
 up-append [] ys = refl
 up-append (x ∷ xs) ys = by-packet (x .packet) (up-append xs ys)
   where
-    by-packet : (o : Option (List ℕ)) → handedUp (xs ++ ys) ≡ handedUp xs ++ handedUp ys
-        → withPacket o (handedUp (xs ++ ys)) ≡ withPacket o (handedUp xs) ++ handedUp ys
+    by-packet : (o : Option (List ℕ)) → packetsHanded (xs ++ ys) ≡ packetsHanded xs ++ packetsHanded ys
+        → withPacket o (packetsHanded (xs ++ ys)) ≡ withPacket o (packetsHanded xs) ++ packetsHanded ys
     by-packet none rest = rest
     by-packet (some p) rest = ap (λ (ps : List (List ℕ)). p ∷ ps) rest
 
 -- the packets that are told of
 abbrev toldUp : List Answer → List (List ℕ)
-toldUp told = handedUp (handedWith told)
+toldUp told = packetsHanded (handedWith told)
 
 told-up : (xs ys : List Answer) → toldUp (xs ++ ys) ≡ toldUp xs ++ toldUp ys
-told-up xs ys = ap handedUp (handed-append xs ys) ∙ up-append (handedWith xs) (handedWith ys)
+told-up xs ys = ap packetsHanded (handed-append xs ys) ∙ up-append (handedWith xs) (handedWith ys)
 
 -- a frame that was closed
 frame-up : (l : Ledger) (f : Frame) (rest : Option ℕ → List BoardEvent)
     → packetsIn (behindFrame f (l .sequence) rest) ≡ toldUp (toldBy (closed l f .answer)) ++ packetsIn (rest (closed l f .ledger .sequence))
-unfolding packetsIn handedWith handedUp
+unfolding packetsIn handedWith packetsHanded
 frame-up l (frames.refused n) rest = by-number (eqb n shortOutput)
   where
     by-number : (t : Bool) → packetsIn (rest (l .sequence)) ≡ toldUp (cond t [] (answers.refused n ∷ [])) ++ packetsIn (rest (l .sequence))
@@ -62,7 +62,7 @@ frame-up l (frames.good sequence payload) rest = by-last (repeated (l .sequence)
         rw e (ap (λ (o : Option ℕ). payload ∷ packetsIn (rest o)) (sym (read-sequence l sequence (calls.readingBy l payload))))
 
 history-up : (l : Ledger) (es : List Event) → packetsIn (boardEventsFrom (l .run) (l .sequence) es) ≡ toldUp (toldInHistory l es)
-unfolding boardEventsFrom packetsIn toldInHistory handedWith handedUp
+unfolding boardEventsFrom packetsIn toldInHistory handedWith packetsHanded
 history-up l [] = refl
 history-up l (minute ∷ es) = history-up (happens l minute .ledger) es
 history-up l (byte b ∷ es) = by-turn (turn (l .run) b) (λ m. history-up m es)
@@ -83,8 +83,8 @@ history-up l (byte b ∷ es) = by-turn (turn (l .run) b) (λ m. history-up m es)
 -- closed and not repeated at once, each of which went to the board.
 pub handed-up : (names : List (List ℕ)) (w : WatchList) → namesIn w ≡ some names → (d : Display) → Begins w d
     → (cs : List Call) (left : List Left) (end : Display) → Chain d cs left end
-    → handedUp (allHanded left) ≡ packetsIn (boardEventsIn (history cs left))
+    → packetsHanded (allHanded left) ≡ packetsIn (boardEventsIn (history cs left))
 handed-up names w listed d begins cs left end chain =
     let a = agreeing listed begins chain in
-    ap handedUp (ap allHanded (a .all .gives) ∙ all-handed names (start names) cs ∙ ap handedWith (told-by names cs left (a .all .gives)))
+    ap packetsHanded (ap allHanded (a .all .gives) ∙ all-handed names (start names) cs ∙ ap handedWith (told-by names cs left (a .all .gives)))
     ∙ sym (history-up (start names) (history cs left))

@@ -17,13 +17,13 @@ use Rattle.ledger.proofs.ByEvents.{afterHistory, toldInHistory}
 use Rattle.ledger.proofs.HistoryLaws.{after-history, toldOut, told-history}
 use Rattle.ledger.proofs.ToldLaws.{handedWith, all-handed, all-told}
 
--- what one more call left of each
-pub record SameNext (more more₁ : Left) (then then₁ : Display) : Type 0 where
+-- what further calls left of each
+pub record SameNext (more more₁ : List Left) (then then₁ : Display) : Type 0 where
   pub answered : more ≡ more₁
   pub counts : then .link .counts ≡ then₁ .link .counts
   pub board : then .board ≡ then₁ .board
 
--- two displays after a list of calls each: what the calls left, and what one more call leaves
+-- two displays after a list of calls each: what the calls left, and what further calls leave
 pub record Alike (left left₁ : List Left) (end end₁ : Display) : Type 0 where
   -- all answers in order, but "nothing" and refusal 7
   pub answers : allAnswers left ≡ allAnswers left₁
@@ -31,8 +31,8 @@ pub record Alike (left left₁ : List Left) (end end₁ : Display) : Type 0 wher
   pub handed : allHanded left ≡ allHanded left₁
   pub counts : end .link .counts ≡ end₁ .link .counts
   pub board : end .board ≡ end₁ .board
-  -- the same next call is answered alike, leaves the same in its buffers, and then counts and board are alike again
-  pub next : (c : Call) (more more₁ : Left) (then then₁ : Display) → Chain end (c ∷ []) (more ∷ []) then → Chain end₁ (c ∷ []) (more₁ ∷ []) then₁
+  -- the same further calls are answered alike, one by one, leave the same in their buffers, and then counts and board are alike again
+  pub next : (ds : List Call) (more more₁ : List Left) (then then₁ : Display) → Chain end ds more then → Chain end₁ ds more₁ then₁
       → SameNext more more₁ then then₁
 
 module _ (names : List (List ℕ)) where
@@ -86,21 +86,18 @@ module _ (names : List (List ℕ)) where
               ∙ ap (λ (m : Ledger). boardShowing (map asEntry (m .entries))) same-ledger
               ∙ sym (two .all .agrees .shows .showing);
           next =
-              λ c more more₁ then then₁ calls calls₁.
+              λ ds more more₁ then then₁ calls calls₁.
               let here = chain-agrees names (one .fit) (after (start names) cs) calls (one .all .agrees) in
               let there = chain-agrees names (two .fit) (after (start names) cs₁) calls₁ (two .all .agrees) in
               record {
-                answered =
-                    next-given (after (start names) cs) c more (here .gives)
-                    ∙ ap (λ (m : Ledger). asLeft names (step m c .given)) same-ledger
-                    ∙ sym (next-given (after (start names) cs₁) c more₁ (there .gives));
+                answered = here .gives ∙ ap (λ (m : Ledger). map (asLeft names) (given m ds)) same-ledger ∙ sym (there .gives);
                 counts =
                     here .agrees .counts-are
-                    ∙ ap (λ (m : Ledger). asCounts (after m (c ∷ []) .counts)) same-ledger
+                    ∙ ap (λ (m : Ledger). asCounts (after m ds .counts)) same-ledger
                     ∙ sym (there .agrees .counts-are);
                 board =
                     here .agrees .shows .showing
-                    ∙ ap (λ (m : Ledger). boardShowing (map asEntry (after m (c ∷ []) .entries))) same-ledger
+                    ∙ ap (λ (m : Ledger). boardShowing (map asEntry (after m ds .entries))) same-ledger
                     ∙ sym (there .agrees .shows .showing);
               };
         }

@@ -16,7 +16,8 @@ pub data Event : Type 0 where
   byte : ℕ → Event
   minute : Event
 
--- what one call adds to the history: of a piece the bytes that were taken
+-- what one call adds to the history: of a piece the bytes that were taken. (A chain has what each call left beside the call; other pairs
+-- do not come.)
 abbrev pub eventsOf : Call → Left → List Event
 eventsOf (answers.piece bytes reply packet) (took n answer reply₁ packet₁) = map byte (take n bytes)
 eventsOf (answers.piece bytes reply packet) ticked = []
@@ -54,9 +55,9 @@ abbrev pub withPacket : Option (List ℕ) → List (List ℕ) → List (List ℕ
 withPacket none packets = packets
 withPacket (some packet) packets = packet ∷ packets
 
-unfoldable pub handedUp : List Handed → List (List ℕ)
-handedUp [] = []
-handedUp (handed ∷ more) = withPacket (handed .packet) (handedUp more)
+unfoldable pub packetsHanded : List Handed → List (List ℕ)
+packetsHanded [] = []
+packetsHanded (handed ∷ more) = withPacket (handed .packet) (packetsHanded more)
 
 -- the answers that do not depend on where a piece was cut: all but "nothing", and refusal 7, after which nothing was taken
 abbrev pub answersAs : Answer → List Answer

@@ -5,11 +5,7 @@ use mathlib.Core.Bool.{cond}
 use mathlib.Core.List.{List, [], _∷_, _++_}
 use mathlib.Core.Option.{Option, some, none}
 use lib.IntN.{ℤ}
-use lib.ListN.{getD}
 use Rattle.slices.specs.Same.{sameBytes}
-use Rattle.rows.specs.Rows.{freshRow}
-use Rattle.rows.specs.declared.Board.{Board}
-use Rattle.rows.specs.declared.Row.{Row}
 use Rattle.board.specs.Reading as reading
 use Rattle.board.specs.Reading.{Verdict, readingOf}
 use Rattle.ledger.specs.BoardEvents.{BoardEvent, tick, packet}
@@ -52,7 +48,3 @@ pub record LastAccepted (names : List (List ℕ)) (name : List ℕ) (value : ℤ
   pub accepts : acceptedFor names name closing ≡ some value
   pub none-later : allAccepted names name since ≡ []
   pub ticks-since : ticksIn since ≡ ticks
-
--- the row at a place of the board
-abbrev pub rowAt : Board → ℕ → Row
-rowAt board place = getD (board .rows) place (freshRow [])

@@ -1,10 +1,13 @@
 -- How the code says what the ledger says: each count modulo 65,536, the rows as they are shown, the answers as enums.
 use Prim.Native.Nat.{ℕ, _%_}
-use mathlib.Core.List.{List, map}
+use mathlib.Core.List.{List, [], map}
 use mathlib.Core.Option.{Option, some, none}
-use lib.ListN.{length}
+use lib.ListN.{length, getD}
 use Rattle.rows.specs.Entries as shown
 use Rattle.rows.specs.Names.{placeOf}
+use Rattle.rows.specs.Rows.{freshRow}
+use Rattle.rows.specs.declared.Board.{Board}
+use Rattle.rows.specs.declared.Row as row
 use Rattle.rows.specs.declared.State.{State}
 use Rattle.rows.specs.declared.State.the-variants.{Never, Current, Silent}
 use Rattle.board.specs.Reading as reading
@@ -39,15 +42,15 @@ asState silent = Silent
 abbrev pub asEntry : Entry → shown.Entry
 asEntry entry = record { name = entry .name; state = asState (rowOf (entry .last)) }
 
--- the row of an update is its name's place in the watch list
-abbrev pub asPlace : Option ℕ → board-answer.Answer
-asPlace (some place) = board-answer.the-variants.Updated place
-asPlace none = board-answer.the-variants.EndMark
+-- the row of an update is its name's place in the watch list (an update is always of a watched name, so none does not come)
+abbrev pub asUpdated : Option ℕ → board-answer.Answer
+asUpdated (some place) = board-answer.the-variants.Updated place
+asUpdated none = board-answer.the-variants.EndMark
 
 abbrev pub asReading : List (List ℕ) → Verdict → board-answer.Answer
 asReading names (reading.refused n) = board-answer.the-variants.Refused n
 asReading names reading.endMark = board-answer.the-variants.EndMark
-asReading names (reading.update name value) = asPlace (placeOf name names)
+asReading names (reading.update name value) = asUpdated (placeOf name names)
 
 abbrev pub asAnswer : List (List ℕ) → answers.Answer → display-answer.Answer
 asAnswer names answers.nothing = display-answer.the-variants.Nothing
@@ -65,3 +68,7 @@ pub data Left : Type 0 where
 abbrev pub asLeft : List (List ℕ) → answers.Given → Left
 asLeft names (answers.took n answer reply packet) = took n (asAnswer names answer) reply packet
 asLeft names answers.ticked = ticked
+
+-- the row at a place of the board
+abbrev pub rowAt : Board → ℕ → row.Row
+rowAt board place = getD (board .rows) place (freshRow [])

@@ -31,7 +31,7 @@ use Rattle.ledger.specs.Answers.{one-by-one, Call, piece, tick}
 use Rattle.ledger.specs.Calls.{step, given, after}
 use Rattle.ledger.specs.Shown.{Left, asLeft, rowAt}
 use Rattle.ledger.specs.History.{eventsOf, history}
-use Rattle.ledger.specs.ClosedFrames.{framesFrom, Closes, dataSequences, lastFrom, lastSequence}
+use Rattle.ledger.specs.ClosedFrames.{marksFrom, framesOf, Closes, dataSequences, lastFrom, lastSequence}
 use Rattle.ledger.proofs.Chain.{Begins, Chain}
 use Rattle.ledger.proofs.EveryList.{chain-agrees, agreeing}
 use Rattle.ledger.proofs.SameHistory.{next-given}
@@ -60,11 +60,11 @@ abbrev more : Left
 more = asLeft names (step (after (start names) cs) sent .given)
 
 last-is : lastSequence (history cs left) ≡ some 0x01
-unfolding given history framesFrom dataSequences lastFrom crcOf addByte shiftBits shiftBit each contentOf framed unstuffFrom unstuff judged readRun turn taken frameOf step after moreAt updated readingOf ifWatched verdictOf withName withValue valueOfItem taskOf taskOfItems valueOf numberOf placeFrom sameBytes packetOf isData withItems itemsOf ifEofsEmpty itemsFilling itemsUpTo inFront eofsEmpty emptyIfEof countOf firstOf behindOf headOf validName between isLetter isNameByte allNameBytes
+unfolding given history marksFrom framesOf dataSequences lastFrom crcOf addByte shiftBits shiftBit each contentOf framed unstuffFrom unstuff judged readRun turn taken frameOf step after moreAt updated readingOf ifWatched verdictOf withName withValue valueOfItem taskOf taskOfItems valueOf numberOf placeFrom sameBytes packetOf isData withItems itemsOf ifEofsEmpty itemsFilling itemsUpTo inFront eofsEmpty emptyIfEof countOf firstOf behindOf headOf validName between isLetter isNameByte allNameBytes
 last-is = refl
 
 closes : Closes (history cs left) (eventsOf sent more) (good 0x01 payload)
-unfolding given history framesFrom crcOf addByte shiftBits shiftBit each contentOf framed unstuffFrom unstuff judged readRun turn taken frameOf step after moreAt updated readingOf ifWatched verdictOf withName withValue valueOfItem taskOf taskOfItems valueOf numberOf placeFrom sameBytes packetOf isData withItems itemsOf ifEofsEmpty itemsFilling itemsUpTo inFront eofsEmpty emptyIfEof countOf firstOf behindOf headOf validName between isLetter isNameByte allNameBytes
+unfolding given history marksFrom framesOf crcOf addByte shiftBits shiftBit each contentOf framed unstuffFrom unstuff judged readRun turn taken frameOf step after moreAt updated readingOf ifWatched verdictOf withName withValue valueOfItem taskOf taskOfItems valueOf numberOf placeFrom sameBytes packetOf isData withItems itemsOf ifEofsEmpty itemsFilling itemsUpTo inFront eofsEmpty emptyIfEof countOf firstOf behindOf headOf validName between isLetter isNameByte allNameBytes
 closes = refl
 
 -- THEOREM. Every display that is given these calls drops the second frame: it is answered again, and the board is as it was.

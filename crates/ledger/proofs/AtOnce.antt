@@ -27,7 +27,7 @@ use Rattle.ledger.specs.Calls as calls
 use Rattle.ledger.specs.Calls.{Effect, answerTo, repeated, closed, withRun, step, after}
 use Rattle.ledger.specs.Shown.{asCounts, asEntry, asUpdated, asReading, Left, took, asLeft}
 use Rattle.ledger.specs.History.{eventsOf, history}
-use Rattle.ledger.specs.ClosedFrames.{framesFrom, framesIn, Closes, lastSequence}
+use Rattle.ledger.specs.ClosedFrames.{marksFrom, framesOf, framesIn, Closes, lastSequence}
 use Rattle.ledger.proofs.CountAgreement.{count-new, count-again, count-unread}
 use Rattle.ledger.proofs.FrameAgreement.{read-shown, read-answered}
 use Rattle.ledger.proofs.Chain.{Begins, Chain}
@@ -100,7 +100,7 @@ module _ (names : List (List ℕ)) (cs : List Call) (left : List Left) (end : Di
 
   step-is : ClosedBy l reply packet sequence payload (step l c)
   step-is =
-      let here : framesFrom (afterHistory (start names) (history cs left) .run) (eventsOf c more) ≡ frames.good sequence payload ∷ [] =
+      let here : framesOf (marksFrom (afterHistory (start names) (history cs left) .run) (eventsOf c more)) ≡ frames.good sequence payload ∷ [] =
       append-cancel-left (framesIn (history cs left)) _ _ (sym (frames-append (start names) (history cs left) (eventsOf c more)) ∙ closes) in
       step-closes names l bytes reply packet sequence payload (rw (← ledger-is, more-is) at here)
 

@@ -18,7 +18,7 @@ use Rattle.ledger.specs.Answers.{Answer, nothing, refused, heard, again,
 use Rattle.ledger.specs.Calls as calls
 use Rattle.ledger.specs.Calls.{repeated, closed, withRun}
 use Rattle.ledger.specs.History.{Event, byte, minute}
-use Rattle.ledger.specs.ClosedFrames.{behindTurn, framesFrom, dataSequences, lastFrom}
+use Rattle.ledger.specs.ClosedFrames.{Mark, passed, frame, behindTurn, marksFrom, framesOf, dataSequences, lastFrom}
 use Rattle.ledger.proofs.StepAgreement.{run-kept}
 
 -- the answers that do not depend on where a piece was cut
@@ -63,19 +63,29 @@ told-append l (x ∷ xs) ys =
     ap (λ (r : List Answer). happens l x .told ++ r) (told-append (happens l x .ledger) xs ys)
     ∙ sym (append-assoc (happens l x .told) (toldInHistory (happens l x .ledger) xs) (toldInHistory (afterHistory (happens l x .ledger) xs) ys))
 
-pub frames-append : (l : Ledger) (xs ys : List Event) → framesFrom (l .run) (xs ++ ys) ≡ framesFrom (l .run) xs ++ framesFrom (afterHistory l xs .run) ys
-unfolding framesFrom afterHistory
-frames-append l [] ys = refl
-frames-append l (minute ∷ xs) ys = frames-append (happens l minute .ledger) xs ys
-frames-append l (byte b ∷ xs) ys = by-turn (turn (l .run) b) (λ m. frames-append m xs ys)
+marks-append : (l : Ledger) (xs ys : List Event) → marksFrom (l .run) (xs ++ ys) ≡ marksFrom (l .run) xs ++ marksFrom (afterHistory l xs .run) ys
+unfolding marksFrom afterHistory
+marks-append l [] ys = refl
+marks-append l (minute ∷ xs) ys = ap (λ (ms : List Mark). passed ∷ ms) (marks-append (happens l minute .ledger) xs ys)
+marks-append l (byte b ∷ xs) ys = by-turn (turn (l .run) b) (λ m. marks-append m xs ys)
   where
-    by-turn : (t : Turn) → ((m : Ledger) → framesFrom (m .run) (xs ++ ys) ≡ framesFrom (m .run) xs ++ framesFrom (afterHistory m xs .run) ys)
-        → behindTurn t (λ run. framesFrom run (xs ++ ys)) ≡ behindTurn t (λ run. framesFrom run xs) ++ framesFrom (afterHistory (atTurn l t .ledger) xs .run) ys
+    by-turn : (t : Turn) → ((m : Ledger) → marksFrom (m .run) (xs ++ ys) ≡ marksFrom (m .run) xs ++ marksFrom (afterHistory m xs .run) ys)
+        → behindTurn t (λ run. marksFrom run (xs ++ ys)) ≡ behindTurn t (λ run. marksFrom run xs) ++ marksFrom (afterHistory (atTurn l t .ledger) xs .run) ys
     by-turn (goes-on run) rest = rest (withRun l run)
     by-turn (closes run) rest =
         let m = closed (withRun l (some [])) (frameOf run) .ledger in
         let empty : m .run ≡ some [] = run-kept (withRun l (some [])) (frameOf run) in
-        ap (λ (fs : List Frame). frameOf run ∷ fs) (rw empty at (rest m))
+        ap (λ (ms : List Mark). frame (frameOf run) ∷ ms) (rw empty at (rest m))
+
+frames-joined : (xs ys : List Mark) → framesOf (xs ++ ys) ≡ framesOf xs ++ framesOf ys
+unfolding framesOf
+frames-joined [] ys = refl
+frames-joined (passed ∷ xs) ys = frames-joined xs ys
+frames-joined (frame f ∷ xs) ys = ap (λ (fs : List Frame). f ∷ fs) (frames-joined xs ys)
+
+pub frames-append : (l : Ledger) (xs ys : List Event)
+    → framesOf (marksFrom (l .run) (xs ++ ys)) ≡ framesOf (marksFrom (l .run) xs) ++ framesOf (marksFrom (afterHistory l xs .run) ys)
+frames-append l xs ys = ap framesOf (marks-append l xs ys) ∙ frames-joined (marksFrom (l .run) xs) (marksFrom (afterHistory l xs .run) ys)
 
 -- the ledger's last sequence is that of the last data frame that was closed
 pub repeats-last : (last : Option ℕ) (sequence : ℕ) → repeated last sequence ≡ true → last ≡ some sequence
@@ -104,16 +114,16 @@ closed-sequence l (frames.good sequence payload) fs = ap (λ (o : Option ℕ). l
     by-last true e = repeats-last (l .sequence) sequence e
     by-last false e = read-sequence l sequence (calls.readingBy l payload)
 
-pub history-sequence : (l : Ledger) (es : List Event) → afterHistory l es .sequence ≡ lastFrom (l .sequence) (dataSequences (framesFrom (l .run) es))
-unfolding framesFrom afterHistory lastFrom dataSequences
+pub history-sequence : (l : Ledger) (es : List Event) → afterHistory l es .sequence ≡ lastFrom (l .sequence) (dataSequences (framesOf (marksFrom (l .run) es)))
+unfolding marksFrom framesOf afterHistory lastFrom dataSequences
 history-sequence l [] = refl
 history-sequence l (minute ∷ es) = history-sequence (happens l minute .ledger) es
 history-sequence l (byte b ∷ es) = by-turn (turn (l .run) b) (λ m. history-sequence m es)
   where
-    by-turn : (t : Turn) → ((m : Ledger) → afterHistory m es .sequence ≡ lastFrom (m .sequence) (dataSequences (framesFrom (m .run) es)))
-        → afterHistory (atTurn l t .ledger) es .sequence ≡ lastFrom (l .sequence) (dataSequences (behindTurn t (λ run. framesFrom run es)))
+    by-turn : (t : Turn) → ((m : Ledger) → afterHistory m es .sequence ≡ lastFrom (m .sequence) (dataSequences (framesOf (marksFrom (m .run) es))))
+        → afterHistory (atTurn l t .ledger) es .sequence ≡ lastFrom (l .sequence) (dataSequences (framesOf (behindTurn t (λ run. marksFrom run es))))
     by-turn (goes-on run) rest = rest (withRun l run)
     by-turn (closes run) rest =
         let m = closed (withRun l (some [])) (frameOf run) .ledger in
         let empty : m .run ≡ some [] = run-kept (withRun l (some [])) (frameOf run) in
-        rw empty at (rest m) ∙ closed-sequence (withRun l (some [])) (frameOf run) (framesFrom (some []) es)
+        rw empty at (rest m) ∙ closed-sequence (withRun l (some [])) (frameOf run) (framesOf (marksFrom (some []) es))

@@ -18,8 +18,8 @@ use Rattle.ledger.specs.Calls as calls
 use Rattle.ledger.specs.Calls.{repeated, closed, withRun, pieceStep, shortStep, step}
 use Rattle.ledger.specs.Shown.{took, asLeft}
 use Rattle.ledger.specs.History.{eventsOf}
-use Rattle.ledger.specs.ClosedFrames.{framesFrom}
-use Rattle.ledger.proofs.HistoryLaws.{framesOf, piece-same}
+use Rattle.ledger.specs.ClosedFrames.{marksFrom, framesOf}
+use Rattle.ledger.proofs.HistoryLaws.{closedFrames, piece-same}
 
 -- a step that closes a good data frame
 pub record ClosedBy (l : Ledger) (reply packet : List ℕ) (sequence : ℕ) (payload : List ℕ) (s : calls.Step) : Type 0 where
@@ -33,12 +33,12 @@ pub record ClosedBy (l : Ledger) (reply packet : List ℕ) (sequence : ℕ) (pay
   pub leaves : s .ledger ≡ closed (withRun l run) (frames.good sequence payload) .ledger
 
 pub step-closes : (names : List (List ℕ)) (l : Ledger) (bytes reply packet : List ℕ) (sequence : ℕ) (payload : List ℕ)
-    → framesFrom (l .run) (eventsOf (piece bytes reply packet) (asLeft names (step l (piece bytes reply packet) .given))) ≡ frames.good sequence payload ∷ []
+    → framesOf (marksFrom (l .run) (eventsOf (piece bytes reply packet) (asLeft names (step l (piece bytes reply packet) .given)))) ≡ frames.good sequence payload ∷ []
     → ClosedBy l reply packet sequence payload (step l (piece bytes reply packet))
-unfolding step framesFrom
+unfolding step marksFrom framesOf
 step-closes names l bytes reply packet sequence payload = by-room (ltb (length reply) 9 || ltb (length packet) 383)
   where
-    by-frame : (t : Taken) (frame : Option (List ℕ)) → t .frame ≡ frame → framesOf frame ≡ frames.good sequence payload ∷ []
+    by-frame : (t : Taken) (frame : Option (List ℕ)) → t .frame ≡ frame → closedFrames frame ≡ frames.good sequence payload ∷ []
         → ClosedBy l reply packet sequence payload (pieceStep l t reply packet)
     by-frame t none f e = let z : _≡_ {A = ℕ} 0 1 = cc in absurd (omega arith)
     by-frame t (some run) f e =
@@ -46,7 +46,7 @@ step-closes names l bytes reply packet sequence payload = by-room (ltb (length r
         record { run = t .run; count = t .count; gives = rw (f, is); leaves = rw (f, is) }
 
     by-room : (t : Bool)
-        → framesFrom (l .run) (eventsOf (piece bytes reply packet) (asLeft names (cond t (shortStep l reply packet) (pieceStep l (taken (l .run) bytes 0) reply packet) .given)))
+        → framesOf (marksFrom (l .run) (eventsOf (piece bytes reply packet) (asLeft names (cond t (shortStep l reply packet) (pieceStep l (taken (l .run) bytes 0) reply packet) .given))))
         ≡ frames.good sequence payload ∷ []
         → ClosedBy l reply packet sequence payload (cond t (shortStep l reply packet) (pieceStep l (taken (l .run) bytes 0) reply packet))
     by-room true e = let z : _≡_ {A = ℕ} 0 1 = cc in absurd (omega arith)

@@ -17,7 +17,8 @@ use Rattle.ledger.specs.Calls as calls
 use Rattle.ledger.specs.Calls.{repeated, closed, withRun}
 use Rattle.ledger.specs.Shown.{Left}
 use Rattle.ledger.specs.History.{Event, byte, minute, history, Handed, withPacket, packetsHanded, allHanded}
-use Rattle.ledger.specs.BoardEvents.{BoardEvent, packet, behindFrame, behindByte, boardEventsFrom, boardEventsIn, packetsIn}
+use Rattle.ledger.specs.ClosedFrames.{behindTurn, marksFrom}
+use Rattle.ledger.specs.BoardEvents.{BoardEvent, packet, behindFrame, boardEventsOf, boardEventsIn, packetsIn}
 use Rattle.ledger.proofs.StepAgreement.{run-kept}
 use Rattle.ledger.proofs.Chain.{Begins, Chain}
 use Rattle.ledger.proofs.EveryList.{agreeing}
@@ -61,21 +62,21 @@ frame-up l (frames.good sequence payload) rest = by-last (repeated (l .sequence)
     by-last false e =
         rw e (ap (λ (o : Option ℕ). payload ∷ packetsIn (rest o)) (sym (read-sequence l sequence (calls.readingBy l payload))))
 
-history-up : (l : Ledger) (es : List Event) → packetsIn (boardEventsFrom (l .run) (l .sequence) es) ≡ toldUp (toldInHistory l es)
-unfolding boardEventsFrom packetsIn toldInHistory handedWith packetsHanded
+history-up : (l : Ledger) (es : List Event) → packetsIn (boardEventsOf (l .sequence) (marksFrom (l .run) es)) ≡ toldUp (toldInHistory l es)
+unfolding marksFrom boardEventsOf packetsIn toldInHistory handedWith packetsHanded
 history-up l [] = refl
 history-up l (minute ∷ es) = history-up (happens l minute .ledger) es
 history-up l (byte b ∷ es) = by-turn (turn (l .run) b) (λ m. history-up m es)
   where
-    by-turn : (t : Turn) → ((m : Ledger) → packetsIn (boardEventsFrom (m .run) (m .sequence) es) ≡ toldUp (toldInHistory m es))
-        → packetsIn (behindByte t (l .sequence) (λ run last. boardEventsFrom run last es))
+    by-turn : (t : Turn) → ((m : Ledger) → packetsIn (boardEventsOf (m .sequence) (marksFrom (m .run) es)) ≡ toldUp (toldInHistory m es))
+        → packetsIn (boardEventsOf (l .sequence) (behindTurn t (λ run. marksFrom run es)))
         ≡ toldUp (atTurn l t .told ++ toldInHistory (atTurn l t .ledger) es)
     by-turn (goes-on run) rest = rest (withRun l run)
     by-turn (closes run) rest =
         let here = withRun l (some []) in
         let m = closed here (frameOf run) .ledger in
         let empty : m .run ≡ some [] = run-kept here (frameOf run) in
-        frame-up here (frameOf run) (λ last. boardEventsFrom (some []) last es)
+        frame-up here (frameOf run) (λ last. boardEventsOf last (marksFrom (some []) es))
         ∙ ap (λ (ps : List (List ℕ)). toldUp (toldBy (closed here (frameOf run) .answer)) ++ ps) (rw empty at (rest m))
         ∙ sym (told-up (toldBy (closed here (frameOf run) .answer)) (toldInHistory m es))
 

@@ -16,13 +16,13 @@ use Rattle.ledger.specs.Answers.{Call, Given, Answer}
 use Rattle.ledger.specs.Calls.{effectOf, withRun, pieceStep, shortStep, step, given, after}
 use Rattle.ledger.specs.Shown.{asLeft}
 use Rattle.ledger.specs.History.{Event, byte, eventsOf, history}
-use Rattle.ledger.specs.ClosedFrames.{behindTurn, framesFrom}
+use Rattle.ledger.specs.ClosedFrames.{behindTurn, marksFrom, framesOf}
 use Rattle.ledger.proofs.ByEvents.{toldBy, atTurn, afterHistory, toldInHistory, history-append, told-append}
 
 -- the frames that a piece closed
-abbrev pub framesOf : Option (List ℕ) → List Frame
-framesOf none = []
-framesOf (some run) = frameOf run ∷ []
+abbrev pub closedFrames : Option (List ℕ) → List Frame
+closedFrames none = []
+closedFrames (some run) = frameOf run ∷ []
 
 -- one byte, by what it does to the run
 module _ (l : Ledger) (b : ℕ) (rest : List Event) (t : Turn) (e : turn (l .run) b ≡ t) where
@@ -34,19 +34,19 @@ module _ (l : Ledger) (b : ℕ) (rest : List Event) (t : Turn) (e : turn (l .run
   unfolding toldInHistory
   byte-told = ap (λ (x : Turn). atTurn l x .told ++ toldInHistory (atTurn l x .ledger) rest) e
 
-  byte-frames : framesFrom (l .run) (byte b ∷ rest) ≡ behindTurn t (λ run. framesFrom run rest)
-  unfolding framesFrom
-  byte-frames = ap (λ (x : Turn). behindTurn x (λ run. framesFrom run rest)) e
+  byte-frames : framesOf (marksFrom (l .run) (byte b ∷ rest)) ≡ framesOf (behindTurn t (λ run. marksFrom run rest))
+  unfolding marksFrom
+  byte-frames = ap (λ (x : Turn). framesOf (behindTurn x (λ run. marksFrom run rest))) e
 
 -- the bytes of a piece that were taken
 pub record Same (l : Ledger) (bytes : List ℕ) (t : Taken) (n : ℕ) : Type 0 where
   pub more : n ≤ t .count
   pub ledger : afterHistory l (map byte (take (t .count - n) bytes)) ≡ effectOf (withRun l (t .run)) (t .frame) .ledger
   pub told : toldInHistory l (map byte (take (t .count - n) bytes)) ≡ toldBy (effectOf (withRun l (t .run)) (t .frame) .answer)
-  pub frames : framesFrom (l .run) (map byte (take (t .count - n) bytes)) ≡ framesOf (t .frame)
+  pub frames : framesOf (marksFrom (l .run) (map byte (take (t .count - n) bytes))) ≡ closedFrames (t .frame)
 
 pub piece-same : (bytes : List ℕ) (l : Ledger) (n : ℕ) → Same l bytes (taken (l .run) bytes n) n
-unfolding taken afterHistory toldInHistory framesFrom
+unfolding taken afterHistory toldInHistory marksFrom framesOf
 piece-same [] l n =
     let none-left : take {A = ℕ} (n - n) [] ≡ [] = take-nil (n - n) in
     record { more = omega arith; ledger = rw none-left; told = rw none-left; frames = rw none-left }

@@ -27,13 +27,13 @@ use Rattle.ledger.specs.Calls as calls
 use Rattle.ledger.specs.Calls.{Effect, repeated, closed, effectOf, withRun, pieceStep, step, after}
 use Rattle.ledger.specs.Shown.{asCounts, asEntry, asAnswer, Left, took, asLeft}
 use Rattle.ledger.specs.History.{Event, byte, history}
-use Rattle.ledger.specs.ClosedFrames.{framesFrom, framesIn, Closes}
+use Rattle.ledger.specs.ClosedFrames.{marksFrom, framesOf, framesIn, Closes}
 use Rattle.ledger.proofs.CountAgreement.{count-refused}
 use Rattle.ledger.proofs.FrameAgreement.{asLast}
 use Rattle.ledger.proofs.Chain.{Begins, Chain}
 use Rattle.ledger.proofs.EveryList.{Agreed, chain-agrees, Agreeing, agreeing}
 use Rattle.ledger.proofs.ByEvents.{frames-append}
-use Rattle.ledger.proofs.HistoryLaws.{framesOf, piece-same}
+use Rattle.ledger.proofs.HistoryLaws.{closedFrames, piece-same}
 use Rattle.ledger.proofs.SameHistory.{next-given, after-by}
 
 -- the numbers of refused frames
@@ -61,7 +61,7 @@ frame-number run n e = by-read (readRun run) refl e
 -- an effect that is answered by a refusal
 record Kept (l : Ledger) (n : ℕ) (frame : Option (List ℕ)) : Type 0 where
   number : (1 ≤ n) × (n ≤ 6)
-  closes : framesOf frame ≡ frames.refused n ∷ []
+  closes : closedFrames frame ≡ frames.refused n ∷ []
   reply : effectOf l frame .reply ≡ []
   packet : effectOf l frame .packet ≡ []
   entries : effectOf l frame .ledger .entries ≡ l .entries
@@ -140,7 +140,7 @@ module _ (names : List (List ℕ)) (cs : List Call) (left : List Left) (end : Di
       let said = gave in
       let all : count ≡ t .count - 0 = let same : count ≡ t .count = cc in omega arith in
       let run-is = ap (λ (m : Ledger). m .run) (after-by names cs left (a .all .gives)) in
-      let here : framesFrom (l .run) (map byte (take count bytes)) ≡ frames.refused n ∷ [] = rw all (piece-same bytes l 0 .frames ∙ kept .closes) in
+      let here : framesOf (marksFrom (l .run) (map byte (take count bytes))) ≡ frames.refused n ∷ [] = rw all (piece-same bytes l 0 .frames ∙ kept .closes) in
       frames-append (start names) (history cs left) (map byte (take count bytes))
       ∙ ap (λ (fs : List Frame). framesIn (history cs left) ++ fs) (rw run-is at here)
 

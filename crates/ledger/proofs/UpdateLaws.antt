@@ -21,7 +21,8 @@ use Rattle.ledger.specs.Frames.{Turn, goes-on, closes, turn, Frame, fram
 use Rattle.ledger.specs.Calls as calls
 use Rattle.ledger.specs.Calls.{repeated, closed, withRun}
 use Rattle.ledger.specs.History.{Event, byte, minute}
-use Rattle.ledger.specs.BoardEvents.{BoardEvent, tick, packet, behindFrame, behindByte, boardEventsFrom}
+use Rattle.ledger.specs.ClosedFrames.{behindTurn, marksFrom}
+use Rattle.ledger.specs.BoardEvents.{BoardEvent, tick, packet, behindFrame, boardEventsOf}
 use Rattle.ledger.specs.LastAccepted.{valueFor, acceptedFor, tickOf}
 use Rattle.ledger.proofs.StepAgreement.{run-kept}
 use Rattle.ledger.proofs.ByEvents.{atTurn, happens, afterHistory, repeats-last, read-sequence}
@@ -150,27 +151,27 @@ module _ (names : List (List ℕ)) where
 
   -- the entries after a history
   pub history-followed : (l : Ledger) (es : List Event) → map nameOf (l .entries) ≡ names → distinct names ≡ true
-      → afterHistory l es .entries ≡ map (afterEvents names (boardEventsFrom (l .run) (l .sequence) es)) (l .entries)
-  unfolding afterHistory boardEventsFrom lastUpdate
+      → afterHistory l es .entries ≡ map (afterEvents names (boardEventsOf (l .sequence) (marksFrom (l .run) es))) (l .entries)
+  unfolding afterHistory marksFrom boardEventsOf lastUpdate
   history-followed l [] named once = sym (kept-all (l .entries))
   history-followed l (minute ∷ es) named once =
       let next = happens l minute .ledger in
       let first = followed l next (tick ∷ []) named refl in
-      history-followed next es (first .named) once ∙ followed-on (tick ∷ []) (boardEventsFrom (l .run) (l .sequence) es) (l .entries)
+      history-followed next es (first .named) once ∙ followed-on (tick ∷ []) (boardEventsOf (l .sequence) (marksFrom (l .run) es)) (l .entries)
   history-followed l (byte b ∷ es) named once = by-turn (turn (l .run) b) (λ m shown. history-followed m es shown once)
     where
       by-turn : (t : Turn)
-          → ((m : Ledger) → map nameOf (m .entries) ≡ names → afterHistory m es .entries ≡ map (afterEvents names (boardEventsFrom (m .run) (m .sequence) es)) (m .entries))
+          → ((m : Ledger) → map nameOf (m .entries) ≡ names → afterHistory m es .entries ≡ map (afterEvents names (boardEventsOf (m .sequence) (marksFrom (m .run) es))) (m .entries))
           → afterHistory (atTurn l t .ledger) es .entries
-          ≡ map (afterEvents names (behindByte t (l .sequence) (λ run last. boardEventsFrom run last es))) (l .entries)
+          ≡ map (afterEvents names (boardEventsOf (l .sequence) (behindTurn t (λ run. marksFrom run es)))) (l .entries)
       by-turn (goes-on run) rest = rest (withRun l run) named
       by-turn (closes run) rest =
           let here = withRun l (some []) in
           let m = closed here (frameOf run) .ledger in
           let f = frame-followed here (frameOf run) named once in
           let empty : m .run ≡ some [] = run-kept here (frameOf run) in
-          let behind = boardEventsFrom (some []) (m .sequence) es in
+          let behind = boardEventsOf (m .sequence) (marksFrom (some []) es) in
           rw empty at (rest m (f .does .named))
           ∙ ap (map (afterEvents names behind)) (f .does .entries)
           ∙ followed-on (f .events) behind (l .entries)
-          ∙ ap (λ (bs : List BoardEvent). map (afterEvents names bs) (l .entries)) (sym (f .sends (λ last. boardEventsFrom (some []) last es)))
+          ∙ ap (λ (bs : List BoardEvent). map (afterEvents names bs) (l .entries)) (sym (f .sends (λ last. boardEventsOf last (marksFrom (some []) es))))

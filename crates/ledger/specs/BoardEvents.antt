@@ -4,9 +4,10 @@ use Prim.Native.Nat.{ℕ}
 use mathlib.Core.Bool.{Bool, true, false}
 use mathlib.Core.List.{List, [], _∷_}
 use mathlib.Core.Option.{Option, some, none}
-use Rattle.ledger.specs.Frames.{Turn, goes-on, closes, turn, Frame, refused, acknowledgement, good, frameOf}
+use Rattle.ledger.specs.Frames.{Frame, refused, acknowledgement, good}
 use Rattle.ledger.specs.Calls.{repeated}
-use Rattle.ledger.specs.History.{Event, byte, minute}
+use Rattle.ledger.specs.History.{Event}
+use Rattle.ledger.specs.ClosedFrames.{Mark, passed, frame, marksIn}
 
 pub data BoardEvent : Type 0 where
   tick : BoardEvent
@@ -22,18 +23,14 @@ behindFrame (refused n) last rest = rest last
 behindFrame (acknowledgement sequence) last rest = rest last
 behindFrame (good sequence payload) last rest = unlessRepeated (repeated last sequence) payload (rest (some sequence))
 
-abbrev pub behindByte : Turn → Option ℕ → (Option (List ℕ) → Option ℕ → List BoardEvent) → List BoardEvent
-behindByte (goes-on run) last rest = rest run last
-behindByte (closes run) last rest = behindFrame (frameOf run) last (rest (some []))
+unfoldable pub boardEventsOf : Option ℕ → List Mark → List BoardEvent
+boardEventsOf last [] = []
+boardEventsOf last (passed ∷ marks) = tick ∷ boardEventsOf last marks
+boardEventsOf last (frame f ∷ marks) = behindFrame f last (λ last₁. boardEventsOf last₁ marks)
 
-unfoldable pub boardEventsFrom : Option (List ℕ) → Option ℕ → List Event → List BoardEvent
-boardEventsFrom run last [] = []
-boardEventsFrom run last (byte b ∷ events) = behindByte (turn run b) last (λ run₁ last₁. boardEventsFrom run₁ last₁ events)
-boardEventsFrom run last (minute ∷ events) = tick ∷ boardEventsFrom run last events
-
--- at first there is no run, and no data frame came
+-- at first no data frame came
 abbrev pub boardEventsIn : List Event → List BoardEvent
-boardEventsIn events = boardEventsFrom none none events
+boardEventsIn events = boardEventsOf none (marksIn events)
 
 -- the packets among them
 unfoldable pub packetsIn : List BoardEvent → List (List ℕ)

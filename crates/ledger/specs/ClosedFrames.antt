@@ -1,5 +1,5 @@
--- 01, The receiver: "each flag after the first ends one frame and begins the next". The frames that a history closed, in order, and the
--- sequences of the data frames among them.
+-- 01, The receiver: "each flag after the first ends one frame and begins the next". The frames that a history closed, in order, with the
+-- minutes between them, and the sequences of the data frames.
 use Prim.Native.Nat.{ℕ}
 use mathlib.Core.Path.{_≡_}
 use mathlib.Core.List.{List, [], _∷_, _++_}
@@ -7,23 +7,37 @@ use mathlib.Core.Option.{Option, some, none}
 use Rattle.ledger.specs.Frames.{Turn, goes-on, closes, turn, Frame, refused, acknowledgement, good, frameOf}
 use Rattle.ledger.specs.History.{Event, byte, minute}
 
--- a byte goes on with the run, or closes a frame and begins an empty run
-abbrev pub behindTurn : Turn → (Option (List ℕ) → List Frame) → List Frame
-behindTurn (goes-on run) rest = rest run
-behindTurn (closes run) rest = frameOf run ∷ rest (some [])
+-- what a history comes to: minutes, and the frames that were closed
+pub data Mark : Type 0 where
+  passed : Mark
+  frame : Frame → Mark
 
-unfoldable pub framesFrom : Option (List ℕ) → List Event → List Frame
-framesFrom run [] = []
-framesFrom run (byte b ∷ events) = behindTurn (turn run b) (λ run₁. framesFrom run₁ events)
-framesFrom run (minute ∷ events) = framesFrom run events
+-- a byte goes on with the run, or closes a frame and begins an empty run
+abbrev pub behindTurn : Turn → (Option (List ℕ) → List Mark) → List Mark
+behindTurn (goes-on run) rest = rest run
+behindTurn (closes run) rest = frame (frameOf run) ∷ rest (some [])
+
+unfoldable pub marksFrom : Option (List ℕ) → List Event → List Mark
+marksFrom run [] = []
+marksFrom run (byte b ∷ events) = behindTurn (turn run b) (λ run₁. marksFrom run₁ events)
+marksFrom run (minute ∷ events) = passed ∷ marksFrom run events
 
 -- at first there is no run
+abbrev pub marksIn : List Event → List Mark
+marksIn events = marksFrom none events
+
+-- the frames alone
+unfoldable pub framesOf : List Mark → List Frame
+framesOf [] = []
+framesOf (passed ∷ marks) = framesOf marks
+framesOf (frame f ∷ marks) = f ∷ framesOf marks
+
 abbrev pub framesIn : List Event → List Frame
-framesIn events = framesFrom none events
+framesIn events = framesOf (marksIn events)
 
 -- further events close one frame
 abbrev pub Closes : List Event → List Event → Frame → Type 0
-Closes events further frame = framesIn (events ++ further) ≡ framesIn events ++ (frame ∷ [])
+Closes events further f = framesIn (events ++ further) ≡ framesIn events ++ (f ∷ [])
 
 unfoldable pub dataSequences : List Frame → List ℕ
 dataSequences [] = []

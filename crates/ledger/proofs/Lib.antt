@@ -10,8 +10,8 @@ pub mod ByEvents
 pub mod HistoryLaws
 pub mod HandedLaws
 pub mod ToldLaws
-pub mod Streams
 pub mod SameHistory
+pub mod Streams
 pub mod HandedUp
 pub mod ClosedCalls
 pub mod AtOnce

@@ -1,18 +1,21 @@
--- Every stream of bytes and minutes is taken by some list of calls, since a call with room takes at least one byte of its piece.
-use mathlib.Core.Path.{_≡_, refl, ap}
-use mathlib.Core.List.{List, [], _∷_}
-use Prim.Native.Nat.{ℕ, _≤_}
+-- DEMAND 3, cuts of the byte stream do not matter: a stream is offered piece by piece, and what a call did not take is offered again. Its
+-- history is the stream, wherever it is cut, and every cutting gets through, since a call with room takes at least one byte.
+use mathlib.Core.Path.{_≡_, refl, sym, ap, _∙_}
+use mathlib.Core.List.{List, [], _∷_, _++_, map, map-append, append-assoc}
+use mathlib.Core.Option.{some}
+use Prim.Native.Nat.{ℕ, zero, suc, _≤_}
 use native.Mathlib.Omega.{arith}
-use lib.ListN.{length, replicate}
+use lib.ListN.{length, take, drop, replicate, length-drop, take-append-drop}
 use Rattle.display.specs.Display.{receivePiece, tickDisplay}
 use Rattle.display.specs.Taking.{Takes}
 use Rattle.display.specs.declared.Display.{Display}
 use Rattle.display.specs.declared.Received.{Received}
 use Rattle.display.proofs.TakingLaws.{takes-some}
-use Rattle.ledger.specs.Answers.{Call, piece, tick}
-use Rattle.ledger.specs.Shown.{Left, ticked}
-use Rattle.ledger.specs.History.{Event, byte, minute, history}
-use Rattle.ledger.proofs.Chain.{Receives, Chain, done, receives, ticks, received, received-by}
+use Rattle.ledger.specs.Answers.{WatchList, namesIn, Call, piece, tick}
+use Rattle.ledger.specs.Shown.{Left, took, ticked}
+use Rattle.ledger.specs.History.{Event, byte, minute, history, Part, cut, pause, eventsIn}
+use Rattle.ledger.proofs.Chain.{Begins, Receives, Ticks, Chain, done, receives, ticks, received, received-by}
+use Rattle.ledger.proofs.SameHistory.{Alike, same-history}
 
 -- THEOREM. Whatever the display, a call that is lent a reply buffer of at least 9 bytes and a packet buffer of at least 383 takes at most its
 -- piece, and some of a piece that has any byte.
@@ -21,36 +24,80 @@ pub room-takes : {d : Display} {bytes reply packet reply₁ packet₁ : List ℕ
 room-takes {d = d} {bytes = bytes} {reply = reply} {packet = packet} {reply₁ = reply₁} {packet₁ = packet₁} {result = result} r a b =
     takes-some d bytes (length reply) (length packet) reply packet reply₁ packet₁ result a b (received r)
 
+-- a stream that is cut into parts is offered, refused calls among them: each piece, then what of it was not taken, until it is all taken
+pub data Feeds : Display → List Part → List Call → List Left → Display → Type 0 where
+  fed : {d : Display} → Feeds d [] [] [] d
+  all-taken : {d d₁ : Display} {parts : List Part} {cs : List Call} {left : List Left} → Feeds d parts cs left d₁ → Feeds d (cut [] ∷ parts) cs left d₁
+  offered : {d d₁ : Display} {bytes reply packet reply₁ packet₁ : List ℕ} {result : Received} {parts : List Part} {cs : List Call} {left : List Left}
+      → Receives d bytes reply packet result reply₁ packet₁ → Feeds (result .display) (cut (drop (result .taken) bytes) ∷ parts) cs left d₁
+      → Feeds d (cut bytes ∷ parts) (piece bytes reply packet ∷ cs) (took (result .taken) (result .answer) reply₁ packet₁ ∷ left) d₁
+  paused : {d d₁ d₂ : Display} {parts : List Part} {cs : List Call} {left : List Left} → Ticks d d₁ → Feeds d₁ parts cs left d₂
+      → Feeds d (pause ∷ parts) (tick ∷ cs) (ticked ∷ left) d₂
+
+fed-chain : {d d₁ : Display} {parts : List Part} {cs : List Call} {left : List Left} → Feeds d parts cs left d₁ → Chain d cs left d₁
+fed-chain fed = done
+fed-chain (all-taken rest) = fed-chain rest
+fed-chain (offered r rest) = receives r (fed-chain rest)
+fed-chain (paused t rest) = ticks t (fed-chain rest)
+
+-- the bytes taken and those offered again are the piece
+rejoined : (n : ℕ) (bytes : List ℕ) (rest : List Event) → map byte (take n bytes) ++ (map byte (drop n bytes) ++ rest) ≡ map byte bytes ++ rest
+rejoined n bytes rest =
+    sym (append-assoc (map byte (take n bytes)) (map byte (drop n bytes)) rest)
+    ∙ ap (λ (es : List Event). es ++ rest) (sym (map-append byte (take n bytes) (drop n bytes)) ∙ ap (map byte) (take-append-drop n bytes))
+
+-- THEOREM. The history of such calls is the stream.
+pub fed-history : {d d₁ : Display} {parts : List Part} {cs : List Call} {left : List Left} → Feeds d parts cs left d₁ → history cs left ≡ eventsIn parts
+unfolding history eventsIn
+fed-history fed = refl
+fed-history (all-taken rest) = fed-history rest
+fed-history (offered {bytes = bytes} {result = result} {parts = parts} r rest) =
+    ap (λ (es : List Event). map byte (take (result .taken) bytes) ++ es) (fed-history rest) ∙ rejoined (result .taken) bytes (eventsIn parts)
+fed-history (paused t rest) = ap (λ (es : List Event). minute ∷ es) (fed-history rest)
+
+-- THEOREM. Wherever a stream is cut, the outcome is the same: from fresh starts with the same names, two ways to cut the same stream are alike
+-- in answers, replies, packets, counts and board, and in all that comes behind.
+pub cuts-do-not-matter : (names : List (List ℕ)) (w w₁ : WatchList) → namesIn w ≡ some names → namesIn w₁ ≡ some names
+    → (d d₁ : Display) → Begins w d → Begins w₁ d₁ → (parts parts₁ : List Part) → eventsIn parts ≡ eventsIn parts₁
+    → (cs cs₁ : List Call) (left left₁ : List Left) (end end₁ : Display) → Feeds d parts cs left end → Feeds d₁ parts₁ cs₁ left₁ end₁
+    → Alike left left₁ end end₁
+cuts-do-not-matter names w w₁ listed listed₁ d d₁ b b₁ parts parts₁ same cs cs₁ left left₁ end end₁ f f₁ =
+    same-history names w w₁ listed listed₁ d d₁ b b₁ cs cs₁ left left₁ end end₁ (fed-chain f) (fed-chain f₁) (fed-history f ∙ same ∙ sym (fed-history f₁))
+
 -- calls that take a stream
-pub record Takers (d : Display) (stream : List Event) : Type 0 where
+pub record Fed (d : Display) (parts : List Part) : Type 0 where
   pub cs : List Call
   pub left : List Left
   pub end : Display
-  pub chain : Chain d cs left end
-  pub takes : history cs left ≡ stream
+  pub feeds : Feeds d parts cs left end
 
--- THEOREM. From every display there is a list of calls that takes any stream of bytes and minutes.
-pub every-stream : (d : Display) (stream : List Event) → Takers d stream
-unfolding history
-every-stream d [] = record { cs = []; left = []; end = d; chain = done; takes = refl }
-every-stream d (minute ∷ stream) =
-    let rest = every-stream (tickDisplay d) stream in
-    record {
-      cs = tick ∷ rest .cs;
-      left = ticked ∷ rest .left;
-      end = rest .end;
-      chain = ticks refl (rest .chain);
-      takes = ap (λ (es : List Event). minute ∷ es) (rest .takes);
-    }
-every-stream d (byte b ∷ stream) =
-    let first = received-by d (b ∷ []) (replicate 9 0) (replicate 383 0) in
-    let rest = every-stream (receivePiece d (b ∷ []) 9 383 .result .display) stream in
-    let some = room-takes first (omega arith) (omega arith) in
-    let one : receivePiece d (b ∷ []) 9 383 .result .taken ≡ 1 = omega (arith, some .within, some .some (omega arith)) in
-    record {
-      cs = piece (b ∷ []) (replicate 9 0) (replicate 383 0) ∷ rest .cs;
-      left = _ ∷ rest .left;
-      end = rest .end;
-      chain = receives first (rest .chain);
-      takes = rw one (ap (λ (es : List Event). byte b ∷ es) (rest .takes));
-    }
+-- a piece is taken in at most as many calls as it has bytes
+nothing-left : (parts : List Part) (d : Display) → Fed d parts → Fed d (cut [] ∷ parts)
+nothing-left parts d rest = record { cs = rest .cs; left = rest .left; end = rest .end; feeds = all-taken (rest .feeds) }
+
+offer : (parts : List Part) (n : ℕ) (bytes : List ℕ) → length bytes ≤ suc n → (d : Display) → ((d₁ : Display) → Fed d₁ parts)
+    → ((rest : List ℕ) → length rest ≤ n → (d₁ : Display) → Fed d₁ (cut rest ∷ parts)) → Fed d (cut bytes ∷ parts)
+offer parts n [] few d behind again = nothing-left parts d (behind d)
+offer parts n (b ∷ bs) few d behind again =
+    let first = received-by d (b ∷ bs) (replicate 9 0) (replicate 383 0) in
+    let result = receivePiece d (b ∷ bs) 9 383 .result in
+    let takes = room-takes first (omega arith) (omega arith) in
+    let fewer : length (drop (result .taken) (b ∷ bs)) ≤ n = omega (arith, length-drop (result .taken) (b ∷ bs), takes .some (omega arith)) in
+    let rest = again (drop (result .taken) (b ∷ bs)) fewer (result .display) in
+    record { cs = _ ∷ rest .cs; left = _ ∷ rest .left; end = rest .end; feeds = offered first (rest .feeds) }
+
+piece-fed : (parts : List Part) → ((d : Display) → Fed d parts) → (n : ℕ) (bytes : List ℕ) → length bytes ≤ n → (d : Display) → Fed d (cut bytes ∷ parts)
+piece-fed parts behind zero bytes few d = by-bytes bytes few
+  where
+    by-bytes : (bytes : List ℕ) → length bytes ≤ 0 → Fed d (cut bytes ∷ parts)
+    by-bytes [] few = nothing-left parts d (behind d)
+    by-bytes (b ∷ bs) few = absurd (omega arith)
+piece-fed parts behind (suc n) bytes few d = offer parts n bytes few d behind (λ rest fewer d₁. piece-fed parts behind n rest fewer d₁)
+
+-- THEOREM. From every display there are calls that take any stream, wherever it is cut.
+pub every-cut : (parts : List Part) (d : Display) → Fed d parts
+every-cut [] d = record { cs = []; left = []; end = d; feeds = fed }
+every-cut (cut bytes ∷ parts) d = piece-fed parts (λ d₁. every-cut parts d₁) (length bytes) bytes (omega arith) d
+every-cut (pause ∷ parts) d =
+    let rest = every-cut parts (tickDisplay d) in
+    record { cs = tick ∷ rest .cs; left = ticked ∷ rest .left; end = rest .end; feeds = paused refl (rest .feeds) }

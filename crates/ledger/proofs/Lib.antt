@@ -13,6 +13,7 @@ pub mod ToldLaws
 pub mod SameHistory
 pub mod Streams
 pub mod HandedUp
+pub mod Replies
 pub mod ClosedCalls
 pub mod AtOnce
 pub mod UpdateLaws

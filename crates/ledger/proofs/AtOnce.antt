@@ -126,7 +126,7 @@ module _ (names : List (List ℕ)) (cs : List Call) (left : List Left) (end : Di
     counted-is : end₁ .link .counts ≡ asCounts (e .ledger .counts)
     counted-is = counts-are ∙ ap (λ (m : Ledger). asCounts (m .counts)) (step-is .leaves ∙ ap (λ (x : Effect). x .ledger) is)
 
-  dropped : repeated (l .sequence) sequence ≡ true → Dropped sequence reply packet end more end₁
+  pub dropped : repeated (l .sequence) sequence ≡ true → Dropped sequence reply packet end more end₁
   dropped again =
       let run = withRun l (step-is .run) in
       let is : closed run (frames.good sequence payload) ≡ calls.repeatedFrame run sequence = rw again in
@@ -139,7 +139,7 @@ module _ (names : List (List ℕ)) (cs : List Call) (left : List Left) (end : Di
         board = shown-is (calls.repeatedFrame run sequence) is ∙ sym (a .all .agrees .shows .showing);
       }
 
-  read-new : repeated (l .sequence) sequence ≡ false → ReadAsNew sequence payload reply packet end more end₁
+  pub read-new : repeated (l .sequence) sequence ≡ false → ReadAsNew sequence payload reply packet end more end₁
   read-new fresh =
       let run = withRun l (step-is .run) in
       let is : closed run (frames.good sequence payload) ≡ calls.newFrame run sequence payload = rw fresh in

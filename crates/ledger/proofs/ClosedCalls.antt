@@ -1,25 +1,29 @@
 -- A call that closes a good data frame: what its step is, and by the last sequence whether the frame is repeated at once.
 use mathlib.Core.Path.{_≡_, refl, sym, ap, _∙_}
 use mathlib.Core.Bool.{Bool, true, false, cond, _||_}
-use mathlib.Core.List.{List, [], _∷_}
+use mathlib.Core.List.{List, [], _∷_, _++_, map}
 use mathlib.Core.Option.{Option, some, none}
 use Prim.Native.Nat.{ℕ, _-_}
 use native.Mathlib.Omega.{arith}
 use lib.Dec.{eqb, ltb}
-use lib.ListN.{length}
+use lib.ListN.{length, take}
 use borrow.Author.Tests.{eq-eqb, ne-eqb}
 use Rattle.slices.specs.Put.{putAt}
-use Rattle.ledger.specs.Ledger.{Ledger}
+use Rattle.display.specs.declared.Display.{Display}
+use Rattle.ledger.specs.Ledger.{Ledger, start}
 use Rattle.ledger.specs.Frames as frames
-use Rattle.ledger.specs.Frames.{Taken, taken, frameOf}
+use Rattle.ledger.specs.Frames.{Frame, Taken, taken, frameOf}
 use Rattle.ledger.specs.Answers as given
-use Rattle.ledger.specs.Answers.{piece}
+use Rattle.ledger.specs.Answers.{Call, piece}
 use Rattle.ledger.specs.Calls as calls
-use Rattle.ledger.specs.Calls.{repeated, closed, withRun, pieceStep, shortStep, step}
-use Rattle.ledger.specs.Shown.{took, asLeft}
-use Rattle.ledger.specs.History.{eventsOf}
-use Rattle.ledger.specs.ClosedFrames.{marksFrom, framesOf}
+use Rattle.ledger.specs.Calls.{repeated, closed, withRun, pieceStep, shortStep, step, after}
+use Rattle.ledger.specs.Shown.{Left, took, asLeft}
+use Rattle.ledger.specs.History.{byte, eventsOf, history}
+use Rattle.ledger.specs.ClosedFrames.{marksFrom, framesOf, framesIn, Closes}
+use Rattle.ledger.proofs.EveryList.{Agreeing}
+use Rattle.ledger.proofs.ByEvents.{frames-append}
 use Rattle.ledger.proofs.HistoryLaws.{closedFrames, piece-same}
+use Rattle.ledger.proofs.SameHistory.{after-by}
 
 -- a step that closes a good data frame
 pub record ClosedBy (l : Ledger) (reply packet : List ℕ) (sequence : ℕ) (payload : List ℕ) (s : calls.Step) : Type 0 where
@@ -71,3 +75,15 @@ other-new (some before) sequence other = rw (ne-eqb sequence before (λ e. other
     never : (t : Bool) → cond t false false ≡ false
     never true = refl
     never false = refl
+
+-- what a call with room closed is what its part of the history closes
+pub closes-here : (names : List (List ℕ)) (cs : List Call) (left : List Left) (end : Display) → Agreeing names cs left end
+    → (bytes : List ℕ) (count : ℕ) (f : Frame) → count ≡ taken (after (start names) cs .run) bytes 0 .count
+    → closedFrames (taken (after (start names) cs .run) bytes 0 .frame) ≡ f ∷ [] → Closes (history cs left) (map byte (take count bytes)) f
+closes-here names cs left end a bytes count f counted is =
+    let l = after (start names) cs in
+    let all : count ≡ taken (l .run) bytes 0 .count - 0 = omega arith in
+    let run-is = ap (λ (m : Ledger). m .run) (after-by names cs left (a .all .gives)) in
+    let here : framesOf (marksFrom (l .run) (map byte (take count bytes))) ≡ f ∷ [] = rw all (piece-same bytes l 0 .frames ∙ is) in
+    frames-append (start names) (history cs left) (map byte (take count bytes))
+    ∙ ap (λ (fs : List Frame). framesIn (history cs left) ++ fs) (rw run-is at here)

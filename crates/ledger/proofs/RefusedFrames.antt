@@ -2,7 +2,7 @@
 -- that is refused hands nothing out.
 use mathlib.Core.Path.{_≡_, refl, sym, ap, _∙_}
 use mathlib.Core.Bool.{Bool, true, false, cond}
-use mathlib.Core.List.{List, [], _∷_, _++_, map}
+use mathlib.Core.List.{List, [], _∷_, map}
 use mathlib.Core.Option.{Option, some, none}
 use Prim.Native.Nat.{ℕ, _-_, _≤_}
 use native.Mathlib.Omega.{arith}
@@ -27,14 +27,14 @@ use Rattle.ledger.specs.Calls as calls
 use Rattle.ledger.specs.Calls.{Effect, repeated, closed, effectOf, withRun, pieceStep, step, after}
 use Rattle.ledger.specs.Shown.{asCounts, asEntry, asAnswer, Left, took, asLeft}
 use Rattle.ledger.specs.History.{Event, byte, history}
-use Rattle.ledger.specs.ClosedFrames.{marksFrom, framesOf, framesIn, Closes}
+use Rattle.ledger.specs.ClosedFrames.{Closes}
 use Rattle.ledger.proofs.CountAgreement.{count-refused}
 use Rattle.ledger.proofs.FrameAgreement.{asLast}
 use Rattle.ledger.proofs.Chain.{Begins, Chain}
 use Rattle.ledger.proofs.EveryList.{Agreed, chain-agrees, Agreeing, agreeing}
-use Rattle.ledger.proofs.ByEvents.{frames-append}
-use Rattle.ledger.proofs.HistoryLaws.{closedFrames, piece-same}
-use Rattle.ledger.proofs.SameHistory.{next-given, after-by}
+use Rattle.ledger.proofs.HistoryLaws.{closedFrames}
+use Rattle.ledger.proofs.SameHistory.{next-given}
+use Rattle.ledger.proofs.ClosedCalls.{closes-here}
 
 -- the numbers of refused frames
 frame-number : (run : List ℕ) (n : ℕ) → frameOf run ≡ frames.refused n → (1 ≤ n) × (n ≤ 6)
@@ -138,11 +138,8 @@ module _ (names : List (List ℕ)) (cs : List Call) (left : List Left) (end : Di
   closed-here : Closes (history cs left) (map byte (take count bytes)) (frames.refused n)
   closed-here =
       let said = gave in
-      let all : count ≡ t .count - 0 = let same : count ≡ t .count = cc in omega arith in
-      let run-is = ap (λ (m : Ledger). m .run) (after-by names cs left (a .all .gives)) in
-      let here : framesOf (marksFrom (l .run) (map byte (take count bytes))) ≡ frames.refused n ∷ [] = rw all (piece-same bytes l 0 .frames ∙ kept .closes) in
-      frames-append (start names) (history cs left) (map byte (take count bytes))
-      ∙ ap (λ (fs : List Frame). framesIn (history cs left) ++ fs) (rw run-is at here)
+      let all : count ≡ t .count = cc in
+      closes-here names cs left end a bytes count (frames.refused n) all (kept .closes)
 
   off-the-line : OffTheLine n (history cs left) (map byte (take count bytes)) reply packet end reply₁ packet₁ end₁
   unfolding after

@@ -9,7 +9,6 @@ use native.Mathlib.Omega.{arith}
 use lib.Dec.{eqb}
 use lib.ListN.{length}
 use Rattle.refusals.specs.Numbers.{shortOutput}
-use Rattle.slices.specs.Put.{putAt}
 use Rattle.frame.specs.Content.{payloadMax}
 use Rattle.frame.specs.Answers.{readAnswer}
 use Rattle.frame.specs.declared.content.FrameRead.{FrameRead}

@@ -32,13 +32,19 @@ use Rattle.ledger.specs.Calls.{step, given, after}
 use Rattle.ledger.specs.Shown.{Left, asLeft, rowAt}
 use Rattle.ledger.specs.History.{eventsOf, history}
 use Rattle.ledger.specs.ClosedFrames.{marksFrom, framesOf, Closes, dataSequences, lastFrom, lastSequence}
+use Rattle.ledger.specs.BoardEvents.{boardEventsIn}
+use Rattle.ledger.specs.LastAccepted.{LastAccepted}
 use Rattle.ledger.proofs.Chain.{Begins, Chain}
 use Rattle.ledger.proofs.EveryList.{chain-agrees, agreeing}
 use Rattle.ledger.proofs.SameHistory.{next-given}
 use Rattle.ledger.proofs.AtOnce.{Dropped, repeated-at-once}
+use Rattle.ledger.proofs.CurrentWhen.{current-exactly-when}
+
+abbrev h1 : List ℕ
+h1 = 0x68 ∷ 0x31 ∷ []
 
 abbrev names : List (List ℕ)
-names = (0x68 ∷ 0x31 ∷ []) ∷ []
+names = h1 ∷ []
 
 abbrev payload : List ℕ
 payload = 0x01 ∷ 0x03 ∷ 0x00 ∷ 0x00 ∷ 0x01 ∷ 0x02 ∷ 0x68 ∷ 0x31 ∷ 0x16 ∷ 0x04 ∷ 0x00 ∷ 0x00 ∷ 0x0d ∷ 0x7a ∷ []
@@ -79,12 +85,13 @@ second-is-dropped d end end₁ left₁ more₁ begins chain next =
     0x01 payload (rw (gives, given-next) closes)
     .repeated (rw gives last-is) (λ zero. omega arith)
 
--- THEOREM. After them it shows 3450 with age 1, and has counted new 1 and again 1.
+-- what a display shows and has counted
 pub record Shows (end : Display) : Type 0 where
   pub state : rowAt (end .board) 0 .state ≡ Current (pos 3450) 1
   pub new : end .link .counts .new ≡ 1
   pub again : end .link .counts .again ≡ 1
 
+-- THEOREM. Every display that is given these calls then shows 3450 with age 1, and has counted new 1 and again 1.
 pub value-is-shown : (d end : Display) (left₁ : List Left) → Begins (one-by-one names) d → Chain d all left₁ end → Shows end
 unfolding crcOf addByte shiftBits shiftBit each contentOf framed unstuffFrom unstuff judged readRun turn taken frameOf step after moreAt updated readingOf ifWatched verdictOf withName withValue valueOfItem taskOf taskOfItems valueOf numberOf placeFrom sameBytes packetOf isData withItems itemsOf ifEofsEmpty itemsFilling itemsUpTo inFront eofsEmpty emptyIfEof countOf firstOf behindOf headOf validName between isLetter isNameByte allNameBytes
 value-is-shown d end left₁ begins chain =
@@ -94,3 +101,10 @@ value-is-shown d end left₁ begins chain =
       new = ap (λ (c : Counts). c .new) (agrees .counts-are);
       again = ap (λ (c : Counts). c .again) (agrees .counts-are);
     }
+
+-- THEOREM. So the last update accepted for h1 had 3450 and closed one tick ago: the repeated frame was none.
+pub last-accepted : (d end : Display) (left₁ : List Left) → Begins (one-by-one names) d → Chain d all left₁ end
+    → LastAccepted names h1 (pos 3450) 1 (boardEventsIn (history all left₁))
+unfolding placeFrom sameBytes
+last-accepted d end left₁ begins chain =
+    current-exactly-when names (one-by-one names) refl d begins all left₁ end chain h1 0 refl (pos 3450) 1 .0 (value-is-shown d end left₁ begins chain .state) .0

@@ -3,7 +3,7 @@
 use mathlib.Core.Path.{_≡_, refl, ap, _∙_}
 use mathlib.Core.Bool.{Bool, true, false, cond}
 use mathlib.Core.List.{List, _++_}
-use Prim.Native.Nat.{ℕ, _≤_}
+use Prim.Native.Nat.{ℕ, _≤_, _<_}
 use native.Mathlib.Omega.{arith}
 use lib.Dec.{ltb}
 use lib.ListN.{length, take}
@@ -20,7 +20,7 @@ use Rattle.frame.specs.Reading.{readFrame}
 use Rattle.frame.specs.Answers.{readPayload, writtenBytes}
 use Rattle.frame.proofs.FrameTheorems.{written-length, wrote, written-read-back, written-bounded}
 use Rattle.frame.proofs.FrameCalls.{sentLength, is-written}
-use Rattle.host.specs.Report.{refusalIn, lengthIn, reportOf, readReport, writtenReport, ReportsRead, ReportsWritten}
+use Rattle.host.specs.Report.{refusalIn, lengthIn, Parts, reportOf, readReport, writtenReport, ReportsRead, ReportsWritten}
 use Rattle.host.proofs.ReportLaws.{parts-read}
 use Rattle.host.proofs.arznavik_crc.Reads as crc
 use Rattle.host.proofs.arznavik_frame_check.Reads as frame-check
@@ -84,15 +84,18 @@ module _ (kind sequence : ℕ) (payload before : List ℕ) (report : ℕ) (after
 
   -- THEOREM. Behind a call of `arznavik_frame_write` whose report has no refusal, as many bytes of its output as the report says, read by a
   -- call of `arznavik_frame_check` with an output of at least 383 bytes, are reported with type, sequence and the payload's length, and the
-  -- payload stands at the start of that output.
-  pub call-read-back : (out : List ℕ) (report₁ : ℕ) (out₁ : List ℕ) → refusalIn report ≡ 0 → Reads (take (lengthIn report) after) out report₁ out₁
-      → payloadMax ≤ length out → (report₁ ≡ reportOf 0 kind sequence (length payload)) × (out₁ ≡ putAt out 0 payload)
-  call-read-back out report₁ out₁ none r asked =
+  -- payload stands at the start of that output. (Type and sequence are bytes.)
+  pub call-read-back : kind < 0x100 → sequence < 0x100 → (out : List ℕ) (report₁ : ℕ) (out₁ : List ℕ) → refusalIn report ≡ 0
+      → Reads (take (lengthIn report) after) out report₁ out₁ → payloadMax ≤ length out
+      → Parts report₁ 0 kind sequence (length payload) × (out₁ ≡ putAt out 0 payload)
+  call-read-back kind-byte sequence-byte out report₁ out₁ none r asked =
       let s = sent none in
+      let few = wrote (length before) kind sequence payload (s .bytes) (s .is) .short in
       let back = written-read-back (length before) kind sequence payload (s .bytes) (length out) (s .is) asked in
       let is : readFrame (length out) (take (lengthIn report) after) ≡ frame kind sequence payload = rw (s .first) back in
       let did = was-read r in
-      (did .reports ∙ ap readReport is, did .payload ∙ rw is)
+      let said = did .reports ∙ ap readReport is in
+      (rw said (parts-read 0 kind sequence (length payload) (omega arith) kind-byte sequence-byte (omega (arith, few))), did .payload ∙ rw is)
 
   -- THEOREM. With a payload of at most 383 bytes and room for the frame, the report is its length without a refusal, and the frame stands at
   -- the start of the output.

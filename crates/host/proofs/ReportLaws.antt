@@ -10,7 +10,7 @@ use Rattle.frame.specs.Writing as writing
 use Rattle.frame.specs.Answers.{readAnswer, writeAnswer}
 use Rattle.frame.specs.declared.content.FrameRead.the-variants as read
 use Rattle.frame.specs.declared.writer.Written.the-variants as written
-use Rattle.host.specs.Report.{reportOf, readReport, writtenReport}
+use Rattle.host.specs.Report.{reportOf, Parts, readReport, writtenReport}
 
 pub read-refused : (found : content.Read) (n : ℕ) → read.Refused n ≡ readAnswer found → reportOf n 0 0 0 ≡ readReport found
 read-refused (content.frame k q p) n e = let z : _≡_ {A = ℕ} 0 1 = cc in absurd (omega arith)
@@ -45,14 +45,6 @@ write-size (writing.written sent) n limit bound e =
     let size : n ≡ length sent = cc in
     rw size (bound sent refl)
 write-size (writing.refused m) n limit bound e = let z : _≡_ {A = ℕ} 0 1 = cc in absurd (omega arith)
-
--- the parts, as the header's accessors read them
-pub record Parts (report number kind sequence size : ℕ) : Type 0 where
-  pub of-number : report % 0x100 ≡ number
-  pub of-kind : report / 0x100 % 0x100 ≡ kind
-  pub of-sequence : report / 0x10000 % 0x100 ≡ sequence
-  pub of-size : report / 0x1000000 % 0x10000 ≡ size
-  pub of-place : report / 0x10000000000 ≡ 0
 
 -- THEOREM. Each part of a report is read off it as it was put in.
 pub parts-read : (number kind sequence size : ℕ) → number < 0x100 → kind < 0x100 → sequence < 0x100 → size < 0x10000

@@ -13,12 +13,25 @@ use Rattle.frame.specs.Answers.{readPayload, writtenBytes}
 abbrev pub reportOf : ℕ → ℕ → ℕ → ℕ → ℕ
 reportOf number kind sequence size = number + kind * 0x100 + sequence * 0x10000 + size * 0x1000000
 
--- the refusal and the length of a report, as the header reads them off it
+-- the parts of a report, as the header reads them off it
 abbrev pub refusalIn : ℕ → ℕ
 refusalIn report = report % 0x100
 
+abbrev pub typeIn : ℕ → ℕ
+typeIn report = report / 0x100 % 0x100
+
+abbrev pub sequenceIn : ℕ → ℕ
+sequenceIn report = report / 0x10000 % 0x100
+
 abbrev pub lengthIn : ℕ → ℕ
 lengthIn report = report / 0x1000000 % 0x10000
+
+pub record Parts (report number kind sequence size : ℕ) : Type 0 where
+  pub of-number : refusalIn report ≡ number
+  pub of-kind : typeIn report ≡ kind
+  pub of-sequence : sequenceIn report ≡ sequence
+  pub of-size : lengthIn report ≡ size
+  pub of-place : report / 0x10000000000 ≡ 0
 
 -- the frame check: type, sequence and the payload's length, or the refusal alone
 abbrev pub readReport : content.Read → ℕ

@@ -30,7 +30,8 @@ use Rattle.packet.proofs.ItemLaws.{items-end, items-rule}
 use Rattle.packet.proofs.WriteLaws.{get-fits, file-fits, fetched-fits, stop-fits}
 use Rattle.packet.proofs.RequestCalls.{ReadPacketCall, CountAllCall, ValueCall, PropertyGetCall, FileRequestCall, FetchedCall, StopCall, packet-was-read, items-were-counted, value-was-read, get-was-written, file-was-written, fetched-was-written, stop-was-written}
 
--- the bytes of items are read as those items
+-- the bytes of items are read as those items (over numbers: a length is a byte where a value has at most 255 bytes, as names and
+-- locations have)
 pub items-back : (items : List Item) → itemsFilling (itemsBytes items) ≡ some items
 unfolding itemsBytes itemBytes inFront
 items-back [] = items-end

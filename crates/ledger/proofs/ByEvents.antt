@@ -21,7 +21,7 @@ use Rattle.ledger.specs.History.{Event, byte, minute}
 use Rattle.ledger.specs.ClosedFrames.{Mark, passed, frame, behindTurn, marksFrom, framesOf, dataSequences, lastFrom}
 use Rattle.ledger.proofs.StepAgreement.{run-kept}
 
--- the answers that do not depend on where a piece was cut
+-- of the ledger's answers those that do not depend on where a piece was cut, as History `answersAs` has it of the software's
 abbrev pub toldBy : Answer → List Answer
 toldBy nothing = []
 toldBy (refused n) = cond (eqb n shortOutput) [] (refused n ∷ [])

@@ -74,7 +74,7 @@ pub received : {d : Display} {bytes reply packet reply₁ packet₁ : List ℕ} 
 received r =
     rw (r .piece-lent .holds, r .reply-lent .holds, r .packet-lent .holds, r .reply-left .holds, r .packet-left .holds) at (r .learnt)
 
--- The theorems are about something: from every fresh start there is a chain for every list of calls.
+-- The theorems are about something: from every display there is a chain for every list of calls.
 pub record Runs (d : Display) (cs : List Call) : Type 0 where
   pub left : List Left
   pub end : Display
@@ -121,9 +121,3 @@ next-start board = tt
 
 pub next-fresh : fresh.Asked tt tt
 next-fresh = tt
-
--- one list of calls behind the other
-pub chain-append : {d e f : Display} {cs ds : List Call} {left more : List Left} → Chain d cs left e → Chain e ds more f → Chain d (cs ++ ds) (left ++ more) f
-chain-append done rest = rest
-chain-append (receives r c) rest = receives r (chain-append c rest)
-chain-append (ticks t c) rest = ticks t (chain-append c rest)

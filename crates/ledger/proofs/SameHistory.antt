@@ -1,5 +1,5 @@
 -- DEMAND 3, cuts of the byte stream do not matter: what the calls took and the ticks settle the ledger, so lists of calls with the same
--- history are alike in all that they told and handed out, in counts and board, and in what comes next.
+-- history are alike in all that they answered and handed out, in counts and board, and in all that comes behind.
 use mathlib.Core.Path.{_≡_, sym, ap, _∙_}
 use mathlib.Core.List.{List, [], _∷_, map}
 use mathlib.Core.Option.{some}

@@ -39,6 +39,7 @@ framesIn events = framesOf (marksIn events)
 abbrev pub Closes : List Event → List Event → Frame → Type 0
 Closes events further f = framesIn (events ++ further) ≡ framesIn events ++ (f ∷ [])
 
+-- the sequences of the good data frames, new ones and repeated ones
 unfoldable pub dataSequences : List Frame → List ℕ
 dataSequences [] = []
 dataSequences (refused n ∷ frames) = dataSequences frames

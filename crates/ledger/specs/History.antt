@@ -1,4 +1,4 @@
--- 01, The ledger: the history is the bytes taken and the ticks, in order, as the calls took them; and what they handed out and told.
+-- 01, The ledger: the history is the bytes taken and the ticks, in order, as the calls took them; and what they handed out and answered.
 use Prim.Native.Nat.{ℕ}
 use mathlib.Core.Bool.{cond}
 use mathlib.Core.List.{List, [], _∷_, _++_, map}

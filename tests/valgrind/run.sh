@@ -21,8 +21,8 @@ for test in "$@"; do
     "${check[@]}" "$folder/$test"
 done
 "${check[@]}" --trace-children=yes "$folder/serial" "$folder/display"
-"${check[@]}" "$folder/display" examples/line.capture | diff -u examples/line.expected -
-"${check[@]}" "$folder/display" <examples/line.capture | diff -u examples/line.expected -
+"${check[@]}" "$folder/display" examples/captures/line.capture | diff -u examples/captures/line.expected -
+"${check[@]}" "$folder/display" <examples/captures/line.capture | diff -u examples/captures/line.expected -
 echo "example: the capture gives its expected lines"
 "${check[@]}" "$folder/differential" 1
 "${check[@]}" "$ash" <crates/ash_cases/stdin | diff -u crates/ash_cases/stdout -
@@ -32,6 +32,6 @@ echo "ash: the stored cases give their stored answers"
 checked=$folder/replay_under_valgrind
 printf '#!/bin/sh\nexec %s %s\n' "${check[*]}" "$replay" >"$checked"
 chmod +x "$checked"
-host/histories/run.sh "$checked" examples/histories
+tests/histories/run.sh "$checked" examples/histories
 "$folder/replay_test" "$checked" "$histories" 1
 echo "valgrind: no errors"

@@ -3,8 +3,8 @@
 use mathlib.Core.Path.{_≡_, refl, ap, _∙_}
 use mathlib.Core.List.{List}
 use Prim.Native.Nat.{ℕ, _+_, _≤_}
-use native.Mathlib.Omega.{arith}
 use lib.ListN.{length, take}
+use Rattle.slices.proofs.Impossible.{impossible}
 use Rattle.slices.specs.Put.{putAt}
 use Rattle.slices.proofs.PutLaws.{put-told}
 use Rattle.slices.proofs.Lent.{InOutCall, in-out-call}
@@ -48,7 +48,7 @@ record Told (result : writing.Written) (n : ℕ) : Type 0 where
 
 told : (result : writing.Written) (n : ℕ) → Length n ≡ writeAnswer result → Told result n
 told (writing.written sent) n e = record { sent = sent; is = refl; size = let same : n ≡ length sent = cc in same }
-told (writing.refused m) n e = let z : _≡_ {A = ℕ} 0 1 = cc in absurd (omega arith)
+told (writing.refused m) n e = impossible cc
 
 record Found (result : reading.Read) (control n : ℕ) : Type 0 where
   payload : List ℕ
@@ -59,7 +59,7 @@ found : (result : reading.Read) (control n : ℕ) → Frame control n ≡ readAn
 found (reading.frame c p) control n e =
     let same : c ≡ control = cc in
     record { payload = p; is = ap (λ (x : ℕ). reading.frame x p) same; size = let size : n ≡ length p = cc in size }
-found (reading.refused m) control n e = let z : _≡_ {A = ℕ} 0 1 = cc in absurd (omega arith)
+found (reading.refused m) control n e = impossible cc
 
 -- where a call answered a length n, the payload is of at most 57 bytes as sent and the first n bytes of the output are its frame
 pub record FrameOut (control : ℕ) (payload : List ℕ) (n : ℕ) (after : List ℕ) : Type 0 where

@@ -5,8 +5,8 @@ use mathlib.Core.Bool.{true}
 use mathlib.Core.List.{List, []}
 use mathlib.Core.Logic.{_⊎_}
 use Prim.Native.Nat.{ℕ, _+_, _≤_}
-use native.Mathlib.Omega.{arith}
 use lib.ListN.{length, take, getD}
+use Rattle.slices.proofs.Impossible.{impossible}
 use Rattle.slices.specs.Put.{putAt}
 use Rattle.ash.specs.Reserved.{flagByte, reserved}
 use Rattle.ash.specs.Stuffing.{payloadMax, stuff}
@@ -85,11 +85,11 @@ pub call-only-flag-and-escapes : (control : ℕ) (payload out : List ℕ) (n : �
 call-only-flag-and-escapes control payload out n sent w i = rw (frame-out w .is) (only-flag-and-escapes control payload i)
 
 no-bytes : (result : writing.Written) (m : ℕ) → written.Refused m ≡ writeAnswer result → writtenBytes result ≡ []
-no-bytes (writing.written sent) m e = let z : _≡_ {A = ℕ} 0 1 = cc in absurd (omega arith)
+no-bytes (writing.written sent) m e = impossible cc
 no-bytes (writing.refused k) m e = refl
 
 no-payload : (result : reading.Read) (m : ℕ) → read.Refused m ≡ readAnswer result → readPayload result ≡ []
-no-payload (reading.frame control payload) m e = let z : _≡_ {A = ℕ} 0 1 = cc in absurd (omega arith)
+no-payload (reading.frame control payload) m e = impossible cc
 no-payload (reading.refused k) m e = refl
 
 -- THEOREM. A call of either that answered a refusal left its output as it was.

@@ -10,6 +10,7 @@ use lib.ListN.{length, take, drop, length-append}
 use lib.Seq.{take-at, drop-at}
 use borrow.Author.Tests.{ltb-false}
 use Rattle.refusals.specs.Numbers.{shortOutput, badLength}
+use Rattle.slices.proofs.Impossible.{impossible}
 use Rattle.slices.proofs.SameLaws.{same-refl}
 use Rattle.ash.specs.Reserved.{reserved, unescaped, rightlyEscaped}
 use Rattle.ash.specs.Stuffing.{payloadMax, stuff, payload}
@@ -106,8 +107,8 @@ wrote room control p sent e = cases (ltb payloadMax (length (stuff p))) (ltb roo
   where
     cases : (t u : Bool) → ltb payloadMax (length (stuff p)) ≡ t → ltb room (length (frameOf control p)) ≡ u
         → cond t (refused badLength) (cond u (refused shortOutput) (written (frameOf control p))) ≡ written sent → Wrote room control p sent
-    cases true u f g e = let z : _≡_ {A = ℕ} 0 1 = cc in absurd (omega arith)
-    cases false true f g e = let z : _≡_ {A = ℕ} 0 1 = cc in absurd (omega arith)
+    cases true u f g e = impossible cc
+    cases false true f g e = impossible cc
     cases false false f g e =
         let same : sent ≡ frameOf control p = cc in
         record {

@@ -10,6 +10,7 @@ use lib.Dec.{ltb}
 use lib.ListN.{length, getD, List·getD-append}
 use lib.Seq.{getD-append-add}
 use borrow.Author.Tests.{ltb-true, ltb-false}
+use Rattle.slices.proofs.Impossible.{impossible}
 use Rattle.ash.specs.Reserved.{flagByte, reserved}
 use Rattle.ash.specs.Stuffing.{stuff}
 use Rattle.ash.specs.Header.{escapeBits, sentByte, sentHeader}
@@ -68,7 +69,7 @@ module _ (control : ℕ) (p : List ℕ) where
           stuffed-free p i (rw here at h)
       cases false e =
           let no = behind-free (stuff p) (checkBytes control p) i (ltb-false i (length (stuff p)) e) checks-free in
-          let z : _≡_ {A = ℕ} 0 1 = cc in absurd (omega arith)
+          impossible cc
 
   -- and that stands so in the frame
   payload-escape : (i : ℕ) → EscapeAt (stuff p) i → PayloadEscape (frameOf control p) (suc (suc (suc (suc i))))
@@ -88,11 +89,11 @@ module _ (control : ℕ) (p : List ℕ) where
   only-flag-and-escapes zero h = inl (refl, refl)
   only-flag-and-escapes (suc zero) h =
       let no = escape-free (reserved control) (reserved (length (stuff p))) in
-      let z : _≡_ {A = ℕ} 0 1 = cc in absurd (omega arith)
+      impossible cc
   only-flag-and-escapes (suc (suc zero)) h =
       let no = sent-free control in
-      let z : _≡_ {A = ℕ} 0 1 = cc in absurd (omega arith)
+      impossible cc
   only-flag-and-escapes (suc (suc (suc zero))) h =
       let no = sent-free (length (stuff p)) in
-      let z : _≡_ {A = ℕ} 0 1 = cc in absurd (omega arith)
+      impossible cc
   only-flag-and-escapes (suc (suc (suc (suc i)))) h = inr (payload-escape i (rest-free i h))

@@ -6,6 +6,7 @@ use Prim.Native.Nat.{ℕ, zero, suc, _+_, _<_}
 use native.Mathlib.Omega.{arith}
 use lib.ListN.{length, getD, length-append, List·getD-append}
 use lib.Seq.{getD-append-add}
+use Rattle.slices.proofs.Impossible.{impossible}
 use Rattle.slices.specs.Each.{each}
 use Rattle.ash.specs.Reserved.{escapeByte, reserved, flipped}
 use Rattle.ash.specs.Stuffing.{stuffByte, stuff}
@@ -43,11 +44,11 @@ module _ (b : ℕ) (rest : List ℕ) (others : (i : ℕ) → reserved (getD rest
   pair-free e zero h = record { escape = refl; inside = omega arith; behind = rw (flipped-twice b) e }
   pair-free e (suc zero) h =
       let no = flipped-free b e in
-      let z : _≡_ {A = ℕ} 0 1 = cc in absurd (omega arith)
+      impossible cc
   pair-free e (suc (suc i)) h = later (escapeByte ∷ flipped b ∷ []) rest i (suc (suc i)) (omega arith) (others i h)
 
   byte-free : reserved b ≡ false → (i : ℕ) → reserved (getD (b ∷ rest) i 0) ≡ true → EscapeAt (b ∷ rest) i
-  byte-free e zero h = let z : _≡_ {A = ℕ} 0 1 = cc in absurd (omega arith)
+  byte-free e zero h = impossible cc
   byte-free e (suc i) h = later (b ∷ []) rest i (suc i) (omega arith) (others i h)
 
   stuffed-more : (i : ℕ) → reserved (getD (stuffByte b ++ rest) i 0) ≡ true → EscapeAt (stuffByte b ++ rest) i
@@ -62,5 +63,5 @@ pub stuffed-free : (p : List ℕ) (i : ℕ) → reserved (getD (stuff p) i 0) �
 unfolding each
 stuffed-free [] i h =
     let no : reserved 0 ≡ false = without-bit-4 0 refl in
-    let z : _≡_ {A = ℕ} 0 1 = cc in absurd (omega arith)
+    impossible cc
 stuffed-free (b ∷ bs) i h = stuffed-more b (stuff bs) (stuffed-free bs) i h

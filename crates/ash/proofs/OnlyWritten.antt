@@ -9,6 +9,7 @@ use lib.ListN.{length, take, drop, take-append-drop}
 use lib.Seq.{length-take-le}
 use borrow.Author.Tests.{eqb-true, not-true}
 use Rattle.refusals.specs.Numbers.{badHeader}
+use Rattle.slices.proofs.Impossible.{impossible}
 use Rattle.slices.proofs.TestLaws.{both}
 use Rattle.ash.specs.Reserved.{flagByte, reserved, unescaped, rightlyEscaped}
 use Rattle.ash.specs.Stuffing.{payloadMax, stuff, payload, unstuff}
@@ -81,7 +82,7 @@ module _ (escape first second : ℕ) (rest : List ℕ) where
     where
       cases : (t : Bool) → goodHeader escape first second ≡ t → cond t (readByLength meant size-meant bytes) (refused badHeader) ≡ frame control p
           → Taken control p bytes
-      cases false f e = let z : _≡_ {A = ℕ} 0 1 = cc in absurd (omega arith)
+      cases false f e = impossible cc
       cases true f e =
           let s = sized-frame meant size-meant bytes control p e in
           let header : sentHeader control size-meant ≡ flagByte ∷ escape ∷ first ∷ second ∷ [] = rw (← s .parts .same-control) (good-sent escape first second f) in

@@ -8,6 +8,7 @@ use lib.Arith.{bin-ind}
 use lib.Bits.{bitXor, differ, xor-step, xor-self}
 use lib.Dec.{eqb}
 use borrow.Author.Tests.{eqb-true, ne-eqb}
+use Rattle.slices.proofs.Impossible.{impossible}
 use Rattle.ash.specs.Reserved.{reserved, flipped}
 
 pub reserved-five : (P : ℕ → Type 0) → P 0x7e → P 0x7d → P 0x11 → P 0x13 → P 0xf8 → (b : ℕ) → reserved b ≡ true → P b
@@ -22,7 +23,7 @@ reserved-five P flag escape xon xoff unnamed b h =
     cases false false true w x e f g i j h = let is : b ≡ 0x11 = eqb-true b 0x11 g in rw is xon
     cases false false false true x e f g i j h = let is : b ≡ 0x13 = eqb-true b 0x13 i in rw is xoff
     cases false false false false true e f g i j h = let is : b ≡ 0xf8 = eqb-true b 0xf8 j in rw is unnamed
-    cases false false false false false e f g i j h = let z : _≡_ {A = ℕ} 0 1 = cc in absurd (omega arith)
+    cases false false false false false e f g i j h = impossible cc
 
 -- no other byte is reserved
 pub not-reserved : (b : ℕ) → (b ≡ 0x7e → ⊥) → (b ≡ 0x7d → ⊥) → (b ≡ 0x11 → ⊥) → (b ≡ 0x13 → ⊥) → (b ≡ 0xf8 → ⊥) → reserved b ≡ false
@@ -36,7 +37,7 @@ without-bit-4 b h = not-reserved b (λ e. omega arith) (λ e. omega arith) (λ e
 
 -- a byte that is not reserved is none that is
 pub unlike-reserved : (b v : ℕ) → reserved b ≡ false → reserved v ≡ true → b ≡ v → ⊥
-unlike-reserved b v free is e = let z : _≡_ {A = ℕ} 0 1 = cc in omega arith
+unlike-reserved b v free is e = impossible cc
 
 -- a byte that cannot be other than the five is reserved
 pub reserved-unless : (b : ℕ) → ((b ≡ 0x7e → ⊥) → (b ≡ 0x7d → ⊥) → (b ≡ 0x11 → ⊥) → (b ≡ 0x13 → ⊥) → (b ≡ 0xf8 → ⊥) → ⊥) → reserved b ≡ true

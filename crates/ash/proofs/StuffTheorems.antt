@@ -4,9 +4,9 @@ use mathlib.Core.Path.{_≡_, refl, sym, ap, _∙_}
 use mathlib.Core.Bool.{Bool, true, false, cond}
 use mathlib.Core.List.{List, [], _∷_, _++_}
 use Prim.Native.Nat.{ℕ}
-use native.Mathlib.Omega.{arith}
 use lib.Dec.{eqb}
 use borrow.Author.Tests.{ne-eqb, eqb-true, not-true}
+use Rattle.slices.proofs.Impossible.{impossible}
 use Rattle.slices.specs.Each.{each}
 use Rattle.ash.specs.Reserved.{escapeByte, reserved, flipped, unescaped, rightlyEscaped}
 use Rattle.ash.specs.Stuffing.{stuffByte, stuff, escapes-next, stands-for, faulty, standing, Unstuffed, payload, broken, joined, taken, unstuffFrom, unstuff}
@@ -46,7 +46,7 @@ record Joined (b : ℕ) (found : Unstuffed) (p : List ℕ) : Type 0 where
 
 joined-payload : (b : ℕ) (found : Unstuffed) (p : List ℕ) → joined b found ≡ payload p → Joined b found p
 joined-payload b (payload q) p e = record { rest = q; is = refl; whole = let same : p ≡ b ∷ q = cc in same }
-joined-payload b broken p e = let z : _≡_ {A = ℕ} 0 1 = cc in absurd (omega arith)
+joined-payload b broken p e = impossible cc
 
 -- a byte that is rightly escaped is sent as what it stands for is stuffed
 rightly-stuffed : (escaped : Bool) (b : ℕ) (rest : List ℕ) → rightlyEscaped escaped b ≡ true
@@ -62,7 +62,7 @@ module _ (b : ℕ) (bs p : List ℕ) (rest : (s : Bool) (q : List ℕ) → unstu
   standing-first s true right f =
       let j = joined-payload (unescaped s b) (unstuff bs) p f in
       rw (j .whole, rest false (j .rest) (j .is)) (rightly-stuffed s b bs right)
-  standing-first s false wrong f = let z : _≡_ {A = ℕ} 0 1 = cc in absurd (omega arith)
+  standing-first s false wrong f = impossible cc
 
   plain-first : (t : Bool) → eqb b escapeByte ≡ t
       → taken (cond t escapes-next (standing false b)) (λ next. unstuffFrom next bs) ≡ payload p → stuff p ≡ b ∷ bs
@@ -76,7 +76,7 @@ module _ (b : ℕ) (bs p : List ℕ) (rest : (s : Bool) (q : List ℕ) → unstu
 
 stuffed-from : (s : Bool) (sent p : List ℕ) → unstuffFrom s sent ≡ payload p → stuff p ≡ behind s sent
 unfolding each unstuffFrom
-stuffed-from true [] p e = let z : _≡_ {A = ℕ} 0 1 = cc in absurd (omega arith)
+stuffed-from true [] p e = impossible cc
 stuffed-from false [] p e = let none : p ≡ [] = cc in rw none
 stuffed-from s (b ∷ bs) p e = one-more b bs p (λ s₁ q. stuffed-from s₁ bs q) s e
 

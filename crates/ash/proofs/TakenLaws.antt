@@ -4,11 +4,11 @@ use mathlib.Core.Path.{_≡_, refl, ap, ap₂, _∙_}
 use mathlib.Core.Bool.{Bool, true, false, cond, _&&_}
 use mathlib.Core.List.{List}
 use Prim.Native.Nat.{ℕ, _+_, _≤_}
-use native.Mathlib.Omega.{arith}
 use lib.Dec.{eqb, ltb, leb}
 use lib.ListN.{length, take, drop}
 use borrow.Author.Tests.{eqb-true, leb-true, ltb-false}
 use Rattle.refusals.specs.Numbers.{shortOutput, badHeader, badLength, otherCheck}
+use Rattle.slices.proofs.Impossible.{impossible}
 use Rattle.slices.specs.Same.{sameBytes}
 use Rattle.slices.proofs.SameLaws.{same-equal}
 use Rattle.slices.proofs.TestLaws.{both}
@@ -24,12 +24,12 @@ pub record Checked (control : ℕ) (check : List ℕ) (found : Unstuffed) (contr
 
 checked-frame : (control : ℕ) (check : List ℕ) (found : Unstuffed) (control₁ : ℕ) (p : List ℕ) → checked control check found ≡ frame control₁ p
     → Checked control check found control₁ p
-checked-frame control check broken control₁ p e = let z : _≡_ {A = ℕ} 0 1 = cc in absurd (omega arith)
+checked-frame control check broken control₁ p e = impossible cc
 checked-frame control check (payload q) control₁ p e = cases (sameBytes check (checkBytes control q)) refl e
   where
     cases : (t : Bool) → sameBytes check (checkBytes control q) ≡ t → cond t (frame control q) (refused otherCheck) ≡ frame control₁ p
         → Checked control check (payload q) control₁ p
-    cases false f e = let z : _≡_ {A = ℕ} 0 1 = cc in absurd (omega arith)
+    cases false f e = impossible cc
     cases true f e =
         let c : control ≡ control₁ = cc in
         let is : q ≡ p = cc in
@@ -51,7 +51,7 @@ sized-frame control size bytes control₁ p e = cases (leb size payloadMax && eq
 
     cases : (t : Bool) → (leb size payloadMax && eqb (length bytes) (size + 7)) ≡ t → cond t found (refused badLength) ≡ frame control₁ p
         → Sized control size bytes control₁ p
-    cases false f e = let z : _≡_ {A = ℕ} 0 1 = cc in absurd (omega arith)
+    cases false f e = impossible cc
     cases true f e =
         let two = both (leb size payloadMax) (eqb (length bytes) (size + 7)) f in
         record {
@@ -74,7 +74,7 @@ opened room bytes control p e = cases (ltb room payloadMax) (flagFirst bytes) (l
     cases : (t u v : Bool) → ltb room payloadMax ≡ t → flagFirst bytes ≡ u → ltb (length bytes) 7 ≡ v
         → cond t (refused shortOutput) (cond u (cond v (refused badLength) (readByHeader bytes)) (refused badHeader)) ≡ frame control p
         → Opened room bytes (frame control p)
-    cases true u v d f g e = let z : _≡_ {A = ℕ} 0 1 = cc in absurd (omega arith)
-    cases false false v d f g e = let z : _≡_ {A = ℕ} 0 1 = cc in absurd (omega arith)
-    cases false true true d f g e = let z : _≡_ {A = ℕ} 0 1 = cc in absurd (omega arith)
+    cases true u v d f g e = impossible cc
+    cases false false v d f g e = impossible cc
+    cases false true true d f g e = impossible cc
     cases false true false d f g e = record { asked = ltb-false room payloadMax d; flag = f; long = ltb-false (length bytes) 7 g; whole = e }

@@ -9,6 +9,7 @@ use native.Mathlib.Omega.{arith}
 use lib.Dec.{eqb}
 use lib.ListN.{length, drop, getD, set, length-append, drop-of-length-le}
 use lib.Seq.{drop-cons}
+use Rattle.slices.proofs.Impossible.{impossible}
 use Rattle.slices.specs.Put.{putAt}
 use Rattle.slices.proofs.PutLaws.{put-append}
 use Rattle.ash.specs.Reserved.{escapeByte, unescaped, rightlyEscaped}
@@ -110,5 +111,5 @@ module _ (sent array₀ : List ℕ) where
         let is : unstuff sent ≡ broken = h .whole ∙ ap (inFront (h .bytes)) e in
         record {
           answers = rw is;
-          array-filled = λ p f. let z : _≡_ {A = ℕ} 0 1 = cc in absurd (omega arith);
+          array-filled = λ p f. impossible cc;
         }

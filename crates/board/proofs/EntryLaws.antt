@@ -9,7 +9,8 @@ use native.Mathlib.Omega.{arith}
 use lib.IntN.{ℤ}
 use lib.ListN.{length, take}
 use Rattle.refusals.specs.Numbers.{notWatched}
-use Rattle.slices.specs.Pair.{pairOf}
+use Rattle.slices.proofs.Impossible.{impossible}
+use Rattle.slices.specs.HighFirst.{pairOf}
 use Rattle.slices.proofs.TestLaws.{both}
 use Rattle.packet.specs.Packet.{packetOf}
 use Rattle.rows.specs.Names.{placeOf, isSome, isIn}
@@ -37,8 +38,8 @@ showing-watched es h =
 names-good : (skip : ℕ) (names : List (List ℕ)) (rest : List ℕ) (out : List (List ℕ)) → Good names → namesFrom skip names rest ≡ some out → Good out
 unfolding namesFrom
 names-good zero names [] out o e = let same : names ≡ out = cc in rw (← same) o
-names-good zero names (tag ∷ []) out o e = let z : _≡_ {A = ℕ} 0 1 = cc in absurd (omega arith)
-names-good zero names (tag ∷ high ∷ []) out o e = let z : _≡_ {A = ℕ} 0 1 = cc in absurd (omega arith)
+names-good zero names (tag ∷ []) out o e = impossible cc
+names-good zero names (tag ∷ high ∷ []) out o e = impossible cc
 names-good zero names (tag ∷ high ∷ low ∷ rest) out o e =
     cases (isWhole tag (pairOf high low) rest && mayJoin names (take (pairOf high low) rest)) refl
     (λ more next. names-good (pairOf high low) (names ++ (take (pairOf high low) rest ∷ [])) rest out more next) e
@@ -46,8 +47,8 @@ names-good zero names (tag ∷ high ∷ low ∷ rest) out o e =
     cases : (t : Bool) → (isWhole tag (pairOf high low) rest && mayJoin names (take (pairOf high low) rest)) ≡ t → (Good (names ++ (take (pairOf high low) rest ∷ [])) → namesFrom (pairOf high low) (names ++ (take (pairOf high low) rest ∷ [])) rest ≡ some out → Good out) → cond t (namesFrom (pairOf high low) (names ++ (take (pairOf high low) rest ∷ [])) rest) none ≡ some out → Good out
     cases true h below e =
         below (good-more names (take (pairOf high low) rest) o (both (isWhole tag (pairOf high low) rest) (mayJoin names (take (pairOf high low) rest)) h .second)) e
-    cases false h below e = let z : _≡_ {A = ℕ} 0 1 = cc in absurd (omega arith)
-names-good (suc skip) names [] out o e = let z : _≡_ {A = ℕ} 0 1 = cc in absurd (omega arith)
+    cases false h below e = impossible cc
+names-good (suc skip) names [] out o e = impossible cc
 names-good (suc skip) names (byte ∷ rest) out o e = names-good skip names rest out o e
 
 pub list-good : (fields : List ℕ) (names : List (List ℕ)) → watchNames fields ≡ some names → Good names
@@ -60,24 +61,24 @@ pub record There (board : Board) (name : List ℕ) : Type 0 where
   pub named : 0 < length name
 
 there : (board : Board) (name : List ℕ) → isIn name (watched board) ≡ true → There board name
-there board [] e = let n = empty-unused (rowNames board) in let z : _≡_ {A = ℕ} 0 1 = cc in absurd (omega arith)
+there board [] e = let n = empty-unused (rowNames board) in impossible cc
 there board (byte ∷ bytes) e =
     cases (placeOf (byte ∷ bytes) (rowNames board)) refl (sym (in-used (byte ∷ bytes) (rowNames board) (omega arith)) ∙ e)
   where
     cases : (o : Option ℕ) → placeOf (byte ∷ bytes) (rowNames board) ≡ o → isSome o ≡ true → There board (byte ∷ bytes)
     cases (some place) h s = record { place = place; stands = h; named = omega arith }
-    cases none h s = let z : _≡_ {A = ℕ} 0 1 = cc in absurd (omega arith)
+    cases none h s = impossible cc
 
 -- only a watched name is updated
 update-watched : (names : List (List ℕ)) (v : Verdict) (name : List ℕ) (value : ℤ) → ifWatched names v ≡ update name value → isIn name names ≡ true
 unfolding ifWatched
-update-watched names (refused number) name value e = let z : _≡_ {A = ℕ} 0 1 = cc in absurd (omega arith)
-update-watched names endMark name value e = let z : _≡_ {A = ℕ} 0 1 = cc in absurd (omega arith)
+update-watched names (refused number) name value e = impossible cc
+update-watched names endMark name value e = impossible cc
 update-watched names (update found number) name value e = cases (isIn found names) refl e
   where
     cases : (t : Bool) → isIn found names ≡ t → cond t (update found number) (refused notWatched) ≡ update name value → isIn name names ≡ true
     cases true h e = let same : found ≡ name = cc in rw (← same) h
-    cases false h e = let z : _≡_ {A = ℕ} 0 1 = cc in absurd (omega arith)
+    cases false h e = impossible cc
 
 module _ (board : Board) (bytes : List ℕ) where
   -- a refusal has its number and leaves the board as it was

@@ -9,7 +9,8 @@ use lib.Dec.{leb, eqb}
 use lib.ListN.{length, take, drop, getD, length-drop, drop-of-length-le}
 use lib.Seq.{drop-drop}
 use borrow.Author.Tests.{leb-true}
-use Rattle.slices.specs.Pair.{pairOf}
+use Rattle.slices.proofs.Impossible.{impossible}
+use Rattle.slices.specs.HighFirst.{pairOf}
 use Rattle.slices.proofs.TestLaws.{both}
 use Rattle.rows.specs.Rows.{boardOf}
 use Rattle.board.specs.WatchList.{Good, mayJoin, isWhole, namesFrom, watchNames, fieldOf, asField, watchBoard, acceptedWith, asWatched}
@@ -36,19 +37,19 @@ field-bad names (tag ∷ high ∷ low ∷ rest) h e =
     rw (cut (isWhole tag (pairOf high low) rest) (pairOf high low) e)
   where
     cut : (t : Bool) (size : ℕ) → cond t (some size) none ≡ none → t ≡ false
-    cut true size e = let z : _≡_ {A = ℕ} 0 1 = cc in absurd (omega arith)
+    cut true size e = impossible cc
     cut false size e = refl
 
 whole : (t : Bool) (n size : ℕ) → cond t (some n) none ≡ some size → (t ≡ true) × (n ≡ size)
 whole true n size e = (refl, cc)
-whole false n size e = let z : _≡_ {A = ℕ} 0 1 = cc in absurd (omega arith)
+whole false n size e = impossible cc
 
 -- a whole name is no longer than the list
 pub field-size : (fields : List ℕ) (size : ℕ) → fieldOf fields ≡ some size → size + 3 ≤ length fields
 unfolding fieldOf
-field-size [] size e = let z : _≡_ {A = ℕ} 0 1 = cc in absurd (omega arith)
-field-size (tag ∷ []) size e = let z : _≡_ {A = ℕ} 0 1 = cc in absurd (omega arith)
-field-size (tag ∷ high ∷ []) size e = let z : _≡_ {A = ℕ} 0 1 = cc in absurd (omega arith)
+field-size [] size e = impossible cc
+field-size (tag ∷ []) size e = impossible cc
+field-size (tag ∷ high ∷ []) size e = impossible cc
 field-size (tag ∷ high ∷ low ∷ rest) size e =
     let w = whole (isWhole tag (pairOf high low) rest) (pairOf high low) size e in
     let all : pairOf high low ≤ length rest = leb-true (pairOf high low) (length rest) (both (eqb tag 0x01) (leb (pairOf high low) (length rest)) (w .0) .second) in
@@ -57,9 +58,9 @@ field-size (tag ∷ high ∷ low ∷ rest) size e =
 -- 01, The board: the name joins, and the rest of the list is read by the same rule
 pub field-next : (names : List (List ℕ)) (fields : List ℕ) (size : ℕ) → fieldOf fields ≡ some size → namesFrom 0 names fields ≡ cond (mayJoin names (take size (drop 3 fields))) (namesFrom 0 (names ++ (take size (drop 3 fields) ∷ [])) (drop (size + 3) fields)) none
 unfolding fieldOf namesFrom
-field-next names [] size e = let z : _≡_ {A = ℕ} 0 1 = cc in absurd (omega arith)
-field-next names (tag ∷ []) size e = let z : _≡_ {A = ℕ} 0 1 = cc in absurd (omega arith)
-field-next names (tag ∷ high ∷ []) size e = let z : _≡_ {A = ℕ} 0 1 = cc in absurd (omega arith)
+field-next names [] size e = impossible cc
+field-next names (tag ∷ []) size e = impossible cc
+field-next names (tag ∷ high ∷ []) size e = impossible cc
 field-next names (tag ∷ high ∷ low ∷ rest) size e =
     let w = whole (isWhole tag (pairOf high low) rest) (pairOf high low) size e in
     let all : pairOf high low ≤ length rest = leb-true (pairOf high low) (length rest) (both (eqb tag 0x01) (leb (pairOf high low) (length rest)) (w .0) .second) in
@@ -85,10 +86,10 @@ field-at (tag ∷ high ∷ low ∷ rest) h = refl
 -- what the reader of a field answered
 pub field-name : (o : Option ℕ) (size : ℕ) → asField o ≡ Name size → o ≡ some size
 field-name (some found) size e = cc
-field-name none size e = let z : _≡_ {A = ℕ} 0 1 = cc in absurd (omega arith)
+field-name none size e = impossible cc
 
 pub field-none : (o : Option ℕ) → asField o ≡ Bad → o ≡ none
-field-none (some found) e = let z : _≡_ {A = ℕ} 0 1 = cc in absurd (omega arith)
+field-none (some found) e = impossible cc
 field-none none e = refl
 
 -- the board of the names before the place at, and what is still to read

@@ -10,7 +10,7 @@ use lib.ListN.{length, length-append}
 use lib.Seq.{take-append-seam, drop-append-seam}
 use borrow.Author.Tests.{lt-ltb, le-leb, not-true}
 use Rattle.slices.specs.Same.{sameBytes}
-use Rattle.slices.specs.Pair.{pairOf}
+use Rattle.slices.specs.HighFirst.{pairOf}
 use Rattle.slices.proofs.TestLaws.{both}
 use Rattle.packet.specs.Names.{validName}
 use Rattle.rows.specs.Names.{placeFrom, isIn}

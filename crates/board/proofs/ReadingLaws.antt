@@ -5,10 +5,10 @@ use mathlib.Core.Bool.{Bool, true, false, cond, _&&_}
 use mathlib.Core.List.{List}
 use mathlib.Core.Option.{Option, some, none}
 use Prim.Native.Nat.{ℕ, _≤_, _<_}
-use native.Mathlib.Omega.{arith}
 use lib.Dec.{eqb, ltb}
 use lib.IntN.{ℤ}
 use borrow.Author.Tests.{eq-eqb, ne-eqb, lt-ltb, le-ltb}
+use Rattle.slices.proofs.Impossible.{impossible}
 use Rattle.refusals.specs.Numbers.{otherOpcode, badName, badValue, notWatched}
 use Rattle.packet.specs.Names.{between, validName}
 use Rattle.packet.specs.Items.{Item, eofKind, countOf, firstOf, valueBytes, valueIn, behindOf}
@@ -46,7 +46,7 @@ module _ (items : List Item) where
 -- what the packet reader answered
 pub task-refused : (j : Judged) (number : ℕ) → packet-answers.readingOf j ≡ packet-reading.Refused number → taskOf j ≡ reject number
 unfolding packet-answers.readingOf taskOf
-task-refused (judged.packet p) number e = let z : _≡_ {A = ℕ} 0 1 = cc in absurd (omega arith)
+task-refused (judged.packet p) number e = impossible cc
 task-refused (judged.refused found) number e = cc
 
 pub task-update : (j : Judged) (opcode id : ℕ) → packet-answers.readingOf j ≡ packet-reading.Packet opcode id → opcode ≡ updateOpcode → taskOf j ≡ taskOfItems (judgedItems j)
@@ -54,44 +54,44 @@ unfolding packet-answers.readingOf taskOf judgedItems
 task-update (judged.packet p) opcode id e is =
     let o : p .opcode ≡ opcode = cc in
     rw (eq-eqb (p .opcode) updateOpcode (o ∙ is))
-task-update (judged.refused found) opcode id e is = let z : _≡_ {A = ℕ} 0 1 = cc in absurd (omega arith)
+task-update (judged.refused found) opcode id e is = impossible cc
 
 pub task-other : (j : Judged) (opcode id : ℕ) → packet-answers.readingOf j ≡ packet-reading.Packet opcode id → (opcode ≡ updateOpcode → ⊥) → taskOf j ≡ reject otherOpcode
 unfolding packet-answers.readingOf taskOf
 task-other (judged.packet p) opcode id e isn't =
     let o : p .opcode ≡ opcode = cc in
     rw (ne-eqb (p .opcode) updateOpcode (λ same. isn't (sym o ∙ same)))
-task-other (judged.refused found) opcode id e isn't = let z : _≡_ {A = ℕ} 0 1 = cc in absurd (omega arith)
+task-other (judged.refused found) opcode id e isn't = impossible cc
 
 -- what the task was that the code answered
 pub was-reject : (t : Task) (number : ℕ) → asTask t ≡ Reject number → t ≡ reject number
 unfolding asTask
 was-reject (reject found) number e = cc
-was-reject finish number e = let z : _≡_ {A = ℕ} 0 1 = cc in absurd (omega arith)
-was-reject (apply items) number e = let z : _≡_ {A = ℕ} 0 1 = cc in absurd (omega arith)
+was-reject finish number e = impossible cc
+was-reject (apply items) number e = impossible cc
 
 pub was-finish : (t : Task) → asTask t ≡ Finish → t ≡ finish
 unfolding asTask
-was-finish (reject found) e = let z : _≡_ {A = ℕ} 0 1 = cc in absurd (omega arith)
+was-finish (reject found) e = impossible cc
 was-finish finish e = refl
-was-finish (apply items) e = let z : _≡_ {A = ℕ} 0 1 = cc in absurd (omega arith)
+was-finish (apply items) e = impossible cc
 
 -- an update is one by the packet's own items
 by-items : (t u : Bool) (items : List Item) → asTask (cond t finish (cond u (apply items) (reject badName))) ≡ Apply → cond t finish (cond u (apply items) (reject badName)) ≡ apply items
 unfolding asTask
-by-items true u items e = let z : _≡_ {A = ℕ} 0 1 = cc in absurd (omega arith)
+by-items true u items e = impossible cc
 by-items false true items e = refl
-by-items false false items e = let z : _≡_ {A = ℕ} 0 1 = cc in absurd (omega arith)
+by-items false false items e = impossible cc
 
 by-opcode : (t : Bool) (items : List Item) → asTask (cond t (taskOfItems items) (reject otherOpcode)) ≡ Apply → cond t (taskOfItems items) (reject otherOpcode) ≡ apply items
 unfolding asTask taskOfItems
 by-opcode true items e = by-items (eqb (countOf nameKind items) 0 && ltb 0 (countOf eofKind items)) (eqb (countOf nameKind items) 1) items e
-by-opcode false items e = let z : _≡_ {A = ℕ} 0 1 = cc in absurd (omega arith)
+by-opcode false items e = impossible cc
 
 pub was-apply : (j : Judged) → asTask (taskOf j) ≡ Apply → taskOf j ≡ apply (judgedItems j)
 unfolding taskOf judgedItems asTask
 was-apply (judged.packet p) e = by-opcode (eqb (p .opcode) updateOpcode) (p .items) e
-was-apply (judged.refused number) e = let z : _≡_ {A = ℕ} 0 1 = cc in absurd (omega arith)
+was-apply (judged.refused number) e = impossible cc
 
 -- without a Name there are no bytes, which are no valid name
 by-name : (name : Option Item) (value : Option ℤ) → withName name value ≡ cond (validName (valueBytes name)) (withValue (valueBytes name) value) (refused badName)

@@ -10,6 +10,7 @@ use lib.Dec.{ltb}
 use lib.ListN.{length, replicate, length-append, length-map}
 use borrow.Author.Tests.{ltb-true, not-true}
 use Rattle.packet.specs.Names.{validName}
+use Rattle.slices.proofs.Impossible.{impossible}
 use Rattle.slices.proofs.PutLaws.{put-first}
 use Rattle.rows.specs.Names.{placeFrom, placeOf, isIn}
 use Rattle.slices.proofs.TestLaws.{both}
@@ -137,8 +138,7 @@ accepted-joins names name o e = cases (mayJoin names name) refl
     cases true h = refl
     cases false h =
         let r = watch-refused names name o h in
-        let z : _≡_ {A = ℕ} 0 1 = cc in
-        absurd (omega arith)
+        impossible cc
 
 pub refused-stays : (names : List (List ℕ)) (name : List ℕ) (number : ℕ) → Good names → watchBoard (boardOf names) name .answer ≡ Refused number → mayJoin names name ≡ false
 refused-stays names name number o e = cases (mayJoin names name) refl
@@ -147,8 +147,7 @@ refused-stays names name number o e = cases (mayJoin names name) refl
     cases false h = refl
     cases true h =
         let r = watch-more names name o h in
-        let z : _≡_ {A = ℕ} 0 1 = cc in
-        absurd (omega arith)
+        impossible cc
 
 -- a name on any board, in the order of the code
 module _ (board : Board) (name : List ℕ) where
@@ -180,8 +179,8 @@ module _ (board : Board) (name : List ℕ) where
 -- what the search for a name answered
 pub place-row : (o : Option ℕ) (place : ℕ) → asPlace o ≡ At place → o ≡ some place
 place-row (some found) place e = cc
-place-row none place e = let z : _≡_ {A = ℕ} 0 1 = cc in absurd (omega arith)
+place-row none place e = impossible cc
 
 pub place-nowhere : (o : Option ℕ) → asPlace o ≡ Nowhere → o ≡ none
-place-nowhere (some found) e = let z : _≡_ {A = ℕ} 0 1 = cc in absurd (omega arith)
+place-nowhere (some found) e = impossible cc
 place-nowhere none e = refl

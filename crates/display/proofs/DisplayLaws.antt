@@ -8,6 +8,7 @@ use native.Mathlib.Omega.{arith}
 use lib.Dec.{eqb, ltb}
 use lib.ListN.{length, take, length-take}
 use borrow.Author.Tests.{ltb-true, ltb-false}
+use Rattle.slices.proofs.Impossible.{impossible}
 use Rattle.slices.specs.Put.{putAt}
 use Rattle.slices.proofs.PutLaws.{put-first}
 use Rattle.frame.specs.Stuffing.{contentMax}
@@ -46,14 +47,14 @@ abbrev noPacket : Outcome → Type 0
 noPacket o = (r n : ℕ) → o .answer ≡ says.New r n → ⊥
 
 refused-none : (number : ℕ) (previous : Last) (before : Counts) → noPacket (refusedFrame number previous before)
-refused-none number previous before r n e = let z : _≡_ {A = ℕ} 0 1 = cc in omega arith
+refused-none number previous before r n e = impossible cc
 
 heard-none : (sequence size : ℕ) (previous : Last) (before : Counts) → noPacket (acknowledgementFrame sequence size previous before)
 heard-none sequence size previous before r n e = cases (eqb size 0) refl e
   where
     cases : (t : Bool) → eqb size 0 ≡ t → acknowledgementFrame sequence size previous before .answer ≡ says.New r n → ⊥
-    cases true f e = let told = rw f at e in let z : _≡_ {A = ℕ} 0 1 = cc in omega arith
-    cases false f e = let told = rw f at e in let z : _≡_ {A = ℕ} 0 1 = cc in omega arith
+    cases true f e = let told = rw f at e in impossible cc
+    cases false f e = let told = rw f at e in impossible cc
 
 module _ (previous : Last) (before : Counts) (r n : ℕ) where
   data-handed : (sequence : ℕ) (payload : List ℕ) → length payload ≤ payloadMax → dataFrame sequence payload previous before .answer ≡ says.New r n
@@ -63,7 +64,7 @@ module _ (previous : Last) (before : Counts) (r n : ℕ) where
     where
       cases : (t : Bool) → cond t (againFrame sequence previous before) (newFrame sequence payload before) .answer ≡ says.New r n
           → Handed (cond t (againFrame sequence previous before) (newFrame sequence payload before) .packet) n payloadMax
-      cases true e = let z : _≡_ {A = ℕ} 0 1 = cc in absurd (omega arith)
+      cases true e = impossible cc
       cases false e = record { size = let same : n ≡ length payload = cc in same; fits = short }
 
   frame-handed : (c : List ℕ) → length c ≤ contentMax → frameOutcome c previous before .answer ≡ says.New r n
@@ -90,7 +91,7 @@ module _ (previous : Last) (before : Counts) (r n : ℕ) where
 
   close-handed : (end : Ended) (array : List ℕ) → length array ≡ contentMax → closeOf end array previous before .answer ≡ says.New r n
       → Handed (closeOf end array previous before .packet) n payloadMax
-  close-handed ends.Nothing array full e = let z : _≡_ {A = ℕ} 0 1 = cc in absurd (omega arith)
+  close-handed ends.Nothing array full e = impossible cc
   close-handed (ends.Refused number) array full e = absurd (refused-none number previous before r n e)
   close-handed (ends.Content k) array full e =
       frame-handed (take k array) (simp length-take (omega arith)) e
@@ -104,7 +105,7 @@ receive-handed state piece replySize packetSize full r n e = by-reply (ltb reply
     by-packet : replyRoom ≤ replySize → (t : Bool) → ltb packetSize payloadMax ≡ t → Handed (receiveOf state piece replySize packetSize .packet) n packetSize
     by-packet h true f =
         let told = rw (short-packet state piece replySize packetSize h (ltb-true packetSize payloadMax f)) at e in
-        let z : _≡_ {A = ℕ} 0 1 = cc in absurd (omega arith)
+        impossible cc
     by-packet h false f =
         let room : payloadMax ≤ packetSize = ltb-false packetSize payloadMax f in
         let is = room-for-both state piece replySize packetSize h room in
@@ -116,7 +117,7 @@ receive-handed state piece replySize packetSize full r n e = by-reply (ltb reply
     by-reply : (t : Bool) → ltb replySize replyRoom ≡ t → Handed (receiveOf state piece replySize packetSize .packet) n packetSize
     by-reply true f =
         let told = rw (short-reply state piece replySize packetSize (ltb-true replySize replyRoom f)) at e in
-        let z : _≡_ {A = ℕ} 0 1 = cc in absurd (omega arith)
+        impossible cc
     by-reply false f = by-packet (ltb-false replySize replyRoom f) (ltb packetSize payloadMax) refl
 
 -- what the link did, and the result by its answer, are what the display does

@@ -10,6 +10,7 @@ use native.Mathlib.Nat.{eq-or-lt-of-le}
 use lib.ListN.{length, take}
 use borrow.Author.Tests.{ltb-true}
 use Rattle.refusals.specs.Numbers.{longContent}
+use Rattle.slices.proofs.Impossible.{impossible}
 use Rattle.slices.specs.Put.{putAt}
 use Rattle.slices.proofs.PutLaws.{length-put, put-first, put-fitting}
 use Rattle.frame.specs.Stuffing.{State, plain, escaped, Meaning, escapes-next, stands-for, faulty, meaning, Unstuffed, content, refused, joined, taken, contentMax, unstuffFrom, unstuff}
@@ -23,7 +24,7 @@ record Joined (v : ℕ) (found : Unstuffed) (c : List ℕ) : Type 0 where
 
 joined-content : (v : ℕ) (found : Unstuffed) (c : List ℕ) → joined v found ≡ content c → Joined v found c
 joined-content v (content d) c e = record { rest = d; is = refl; whole = let same : c ≡ v ∷ d = cc in same }
-joined-content v (refused n) c e = let z : _≡_ {A = ℕ} 0 1 = cc in absurd (omega arith)
+joined-content v (refused n) c e = impossible cc
 
 -- one byte more keeps the bound, if the rest does
 module _ (held : ℕ) (rest : State → ℕ → Unstuffed) (c : List ℕ)
@@ -35,18 +36,18 @@ module _ (held : ℕ) (rest : State → ℕ → Unstuffed) (c : List ℕ)
       let room : held < contentMax = ltb-true held contentMax f in
       let more = bounded plain (suc held) (j .rest) room (j .is) in
       rw (j .whole) (omega arith)
-  byte-bounded v false f e = let z : _≡_ {A = ℕ} 0 1 = cc in absurd (omega arith)
+  byte-bounded v false f e = impossible cc
 
   taken-bounded : (m : Meaning) → held ≤ contentMax → taken m held rest ≡ content c → held + length c ≤ contentMax
   taken-bounded escapes-next h e = bounded escaped held c h e
   taken-bounded (stands-for v) h e = byte-bounded v (ltb held contentMax) refl e
-  taken-bounded faulty h e = let z : _≡_ {A = ℕ} 0 1 = cc in absurd (omega arith)
+  taken-bounded faulty h e = impossible cc
 
 pub unstuff-bounded : (s : State) (held : ℕ) (bytes c : List ℕ) → held ≤ contentMax → unstuffFrom s held bytes ≡ content c
     → held + length c ≤ contentMax
 unfolding unstuffFrom
 unstuff-bounded plain held [] c h e = let none : c ≡ [] = cc in rw none (omega arith)
-unstuff-bounded escaped held [] c h e = let z : _≡_ {A = ℕ} 0 1 = cc in absurd (omega arith)
+unstuff-bounded escaped held [] c h e = impossible cc
 unstuff-bounded s held (b ∷ bs) c h e =
     taken-bounded held (λ s₁ held₁. unstuffFrom s₁ held₁ bs) c (λ s₁ held₁ c₁. unstuff-bounded s₁ held₁ bs c₁) (meaning s b) h e
 
@@ -54,7 +55,7 @@ unstuff-bounded s held (b ∷ bs) c h e =
 module _ (held : ℕ) (rest : State → ℕ → Unstuffed) (n : ℕ)
     (known : (s₁ : State) (held₁ : ℕ) → rest s₁ held₁ ≡ refused n → (1 ≤ n) × (n ≤ 2)) where
   joined-refused : (v : ℕ) (found : Unstuffed) → joined v found ≡ refused n → found ≡ refused n
-  joined-refused v (content c) e = let z : _≡_ {A = ℕ} 0 1 = cc in absurd (omega arith)
+  joined-refused v (content c) e = impossible cc
   joined-refused v (refused m) e = e
 
   byte-refused : (v : ℕ) (t : Bool) → cond t (joined v (rest plain (suc held))) (refused longContent) ≡ refused n → (1 ≤ n) × (n ≤ 2)
@@ -68,7 +69,7 @@ module _ (held : ℕ) (rest : State → ℕ → Unstuffed) (n : ℕ)
 
 pub refused-number : (s : State) (held : ℕ) (bytes : List ℕ) (n : ℕ) → unstuffFrom s held bytes ≡ refused n → (1 ≤ n) × (n ≤ 2)
 unfolding unstuffFrom
-refused-number plain held [] n e = let z : _≡_ {A = ℕ} 0 1 = cc in absurd (omega arith)
+refused-number plain held [] n e = impossible cc
 refused-number escaped held [] n e = let is : n ≡ 1 = cc in omega arith
 refused-number s held (b ∷ bs) n e =
     taken-refused held (λ s₁ held₁. unstuffFrom s₁ held₁ bs) n (λ s₁ held₁. refused-number s₁ held₁ bs n) (meaning s b) e
@@ -93,9 +94,9 @@ no-escape : (b : ℕ) → meaning escaped b ≡ escapes-next → ⊥
 no-escape b e = cases (eqb b 0x5e) (eqb b 0x5d) e
   where
     cases : (t u : Bool) → cond t (stands-for 0x7e) (cond u (stands-for 0x7d) faulty) ≡ escapes-next → ⊥
-    cases true u e = let z : _≡_ {A = ℕ} 0 1 = cc in omega arith
-    cases false true e = let z : _≡_ {A = ℕ} 0 1 = cc in omega arith
-    cases false false e = let z : _≡_ {A = ℕ} 0 1 = cc in omega arith
+    cases true u e = impossible cc
+    cases false true e = impossible cc
+    cases false false e = impossible cc
 
 take-enough : (s : State) (held n : ℕ) (bytes : List ℕ) → held ≤ contentMax → Enough s held n
     → unstuffFrom s held (take n bytes) ≡ unstuffFrom s held bytes

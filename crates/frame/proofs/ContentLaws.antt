@@ -8,6 +8,7 @@ use native.Mathlib.Omega.{arith}
 use lib.Dec.{eqb, ltb}
 use lib.ListN.{length, take, drop, getD, length-take, length-drop}
 use borrow.Author.Tests.{eq-eqb, ne-eqb, eqb-true, eqb-false, lt-ltb, le-ltb, ltb-true, ltb-false}
+use Rattle.slices.proofs.Impossible.{impossible}
 use Rattle.refusals.specs.Numbers.{shortContent, badCheck}
 use Rattle.crc.specs.Crc.{linkStart, crcOf}
 use Rattle.frame.specs.Content.{Read, frame, refused, payloadOf, judged}
@@ -32,7 +33,7 @@ module _ (c : List ℕ) where
 
 -- what an answer says of what was read
 pub answer-refused : (found : Read) (n : ℕ) → answer.Refused n ≡ readAnswer found → found ≡ refused n
-answer-refused (frame k q p) n e = let z : _≡_ {A = ℕ} 0 1 = cc in absurd (omega arith)
+answer-refused (frame k q p) n e = impossible cc
 answer-refused (refused m) n e = let same : m ≡ n = cc in ap refused same
 
 pub record FoundFrame (c : List ℕ) (kind sequence n : ℕ) : Type 0 where
@@ -48,7 +49,7 @@ answer-frame c k q n e = short (ltb (length c) 4) refl
     good whole false f =
         let is : judged c ≡ refused badCheck = judged-bad c whole (eqb-false _ _ f) in
         let e′ : answer.Frame k q n ≡ readAnswer (refused badCheck) = e ∙ ap readAnswer is in
-        let z : _≡_ {A = ℕ} 0 1 = cc in absurd (omega arith)
+        impossible cc
     good whole true f =
         let is : judged c ≡ frame (getD c 0 0) (getD c 1 0) (payloadOf c) = judged-good c whole (eqb-true _ _ f) in
         let e′ : answer.Frame k q n ≡ readAnswer (frame (getD c 0 0) (getD c 1 0) (payloadOf c)) = e ∙ ap readAnswer is in
@@ -61,7 +62,7 @@ answer-frame c k q n e = short (ltb (length c) 4) refl
     short true f =
         let is : judged c ≡ refused shortContent = judged-short c (ltb-true _ _ f) in
         let e′ : answer.Frame k q n ≡ readAnswer (refused shortContent) = e ∙ ap readAnswer is in
-        let z : _≡_ {A = ℕ} 0 1 = cc in absurd (omega arith)
+        impossible cc
     short false f = good (ltb-false _ _ f) (eqb (crcOf linkStart c) 0) refl
 
 -- the payload as a part of the content

@@ -9,6 +9,7 @@ use native.Mathlib.Omega.{arith}
 use lib.Dec.{eqb}
 use lib.ListN.{length, getD}
 use borrow.Author.Tests.{eqb-true, eqb-false, eq-eqb, ne-eqb}
+use Rattle.slices.proofs.Impossible.{impossible}
 use Rattle.refusals.specs.Numbers.{badFraming}
 use Rattle.frame.specs.Stuffing.{flagByte}
 use Rattle.frame.specs.Content.{payloadMax}
@@ -59,7 +60,7 @@ pub record Flags (s : List ℕ) : Type 0 where
 
 flagged-flags : (s : List ℕ) → flaggedBytes s ≡ true → Flags s
 unfolding flaggedBytes
-flagged-flags [] e = let z : _≡_ {A = ℕ} 0 1 = cc in absurd (omega arith)
+flagged-flags [] e = impossible cc
 flagged-flags (b ∷ bs) e = cases (eqb b flagByte) refl e
   where
     at-last : suc (firstFlag bs) ≡ length bs → getD (b ∷ bs) (suc (length bs) - 1) 0 ≡ flagByte
@@ -75,7 +76,7 @@ flagged-flags (b ∷ bs) e = cases (eqb b flagByte) refl e
     cases true f g =
         let next = eqb-true (suc (firstFlag bs)) (length bs) g in
         record { two = flagged-two (b ∷ bs) e; first = eqb-true b flagByte f; last = at-last next; none-between = between next }
-    cases false f g = let z : _≡_ {A = ℕ} 0 1 = cc in absurd (omega arith)
+    cases false f g = impossible cc
 
 flags-flagged : (s : List ℕ) → Flags s → flaggedBytes s ≡ true
 unfolding flaggedBytes

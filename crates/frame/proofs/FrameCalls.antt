@@ -3,8 +3,8 @@
 use mathlib.Core.Path.{_≡_, refl, ap, _∙_}
 use mathlib.Core.List.{List}
 use Prim.Native.Nat.{ℕ, _+_, _≤_}
-use native.Mathlib.Omega.{arith}
 use lib.ListN.{length, take}
+use Rattle.slices.proofs.Impossible.{impossible}
 use Rattle.slices.specs.Put.{putAt}
 use Rattle.slices.proofs.PutLaws.{put-told}
 use Rattle.slices.proofs.Lent.{InOutCall, in-out-call}
@@ -52,7 +52,7 @@ module _ (kind sequence : ℕ) (payload before after : List ℕ) where
     where
       cases : (result : writing.Written) → writeFrame (length before) kind sequence payload ≡ result → WritesAs result before (answered.Length n) after
           → Sent (length before) kind sequence payload n after
-      cases (refused m) e did = let a = did .answers in let z : _≡_ {A = ℕ} 0 1 = cc in absurd (omega arith)
+      cases (refused m) e did = let a = did .answers in impossible cc
       cases (written bytes) e did =
           let a = did .answers in
           let size : n ≡ length bytes = cc in
@@ -77,14 +77,14 @@ module _ (kind sequence : ℕ) (payload before after : List ℕ) where
     where
       cases : (result : writing.Written) → WritesAs result before (answered.Refused m) after → after ≡ before
       cases (refused k) did = did .output
-      cases (written bytes) did = let a = did .answers in let z : _≡_ {A = ℕ} 0 1 = cc in absurd (omega arith)
+      cases (written bytes) did = let a = did .answers in impossible cc
 
 pub refused-read-keeps : (bytes before : List ℕ) (m : ℕ) (after : List ℕ) → Reads bytes before (read.Refused m) after → after ≡ before
 refused-read-keeps bytes before m after r = cases (readFrame (length before) bytes) (was-read r)
   where
     cases : (found : Read) → ReadsAs found before (read.Refused m) after → after ≡ before
     cases (content.refused k) did = did .output
-    cases (frame kind sequence payload) did = let a = did .answers in let z : _≡_ {A = ℕ} 0 1 = cc in absurd (omega arith)
+    cases (frame kind sequence payload) did = let a = did .answers in impossible cc
 
 -- 01, Frames: the written length is 6 plus the payload length plus the number of 7d and 7e bytes in content
 abbrev pub sentLength : ℕ → ℕ → List ℕ → ℕ

@@ -13,6 +13,7 @@ use borrow.Author.Tests.{eq-eqb, le-leb, ltb-false}
 use Rattle.refusals.specs.Numbers.{badFraming, shortOutput, longPayload}
 use Rattle.crc.specs.Crc.{linkStart, crcOf, checkBytes}
 use Rattle.crc.proofs.CrcLaws.{crc-checked}
+use Rattle.slices.proofs.Impossible.{impossible}
 use Rattle.slices.specs.Each.{each}
 use Rattle.frame.specs.Stuffing as stuffing
 use Rattle.frame.specs.Stuffing.{flagByte, contentMax, stuffByte, stuff, escapes, unstuff}
@@ -119,8 +120,8 @@ wrote room kind sequence payload sent e =
     cases : (t u : Bool) → ltb payloadMax (length payload) ≡ t → ltb room (length (frameOf kind sequence payload)) ≡ u
         → cond t (refused longPayload) (cond u (refused shortOutput) (written (frameOf kind sequence payload))) ≡ written sent
         → Wrote room kind sequence payload sent
-    cases true u f g e = let z : _≡_ {A = ℕ} 0 1 = cc in absurd (omega arith)
-    cases false true f g e = let z : _≡_ {A = ℕ} 0 1 = cc in absurd (omega arith)
+    cases true u f g e = impossible cc
+    cases false true f g e = impossible cc
     cases false false f g e =
         let same : sent ≡ frameOf kind sequence payload = cc in
         record {
@@ -142,7 +143,7 @@ unfolding readRun unstuff
 run-bounded run kind sequence payload e = cases (unstuff run) refl e
   where
     cases : (found : stuffing.Unstuffed) → unstuff run ≡ found → judgedContent found ≡ frame kind sequence payload → length payload ≤ payloadMax
-    cases (stuffing.refused n) f e = let z : _≡_ {A = ℕ} 0 1 = cc in absurd (omega arith)
+    cases (stuffing.refused n) f e = impossible cc
     cases (stuffing.content c) f e =
         let whole = answer-frame c kind sequence (length payload) (sym (ap readAnswer e)) in
         omega (arith, whole .size, unstuff-bounded stuffing.plain 0 run c (omega arith) f)
@@ -154,9 +155,9 @@ read-bounded room bytes kind sequence payload e = cases (ltb room payloadMax) (f
   where
     cases : (t u : Bool) → cond t (content.refused shortOutput) (cond u (readRun (between bytes)) (content.refused badFraming)) ≡ frame kind sequence payload
         → length payload ≤ payloadMax
-    cases true u e = let z : _≡_ {A = ℕ} 0 1 = cc in absurd (omega arith)
+    cases true u e = impossible cc
     cases false true e = run-bounded (between bytes) kind sequence payload e
-    cases false false e = let z : _≡_ {A = ℕ} 0 1 = cc in absurd (omega arith)
+    cases false false e = impossible cc
 
 -- a frame that was written has at most 776 bytes
 pub written-bounded : (room kind sequence : ℕ) (payload sent : List ℕ) → writeFrame room kind sequence payload ≡ written sent

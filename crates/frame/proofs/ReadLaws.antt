@@ -10,6 +10,7 @@ use lib.Dec.{eqb, ltb}
 use lib.ListN.{length, take, drop, getD, drop-of-length-le}
 use lib.Seq.{drop-cons}
 use borrow.Author.Tests.{eq-eqb, ne-eqb, lt-ltb, le-ltb, ltb-true, ltb-false}
+use Rattle.slices.proofs.Impossible.{impossible}
 use Rattle.refusals.specs.Numbers.{badFraming, shortOutput}
 use Rattle.frame.specs.Stuffing as stuffing
 use Rattle.frame.specs.Stuffing.{flagByte, unstuff}
@@ -64,7 +65,7 @@ flagged-two bytes e = cases (ltb (length bytes) 2) refl
     cases : (t : Bool) → ltb (length bytes) 2 ≡ t → 2 ≤ length bytes
     cases true f =
         let no : flaggedBytes bytes ≡ false = flagged-short bytes (ltb-true (length bytes) 2 f) in
-        let z : _≡_ {A = ℕ} 0 1 = cc in absurd (omega arith)
+        impossible cc
     cases false f = ltb-false (length bytes) 2 f
 
 -- the reader of one whole frame, one law for each test

@@ -6,6 +6,7 @@ use Prim.Native.Nat.{ℕ, _≤_}
 use native.Mathlib.Omega.{arith}
 use lib.Dec.{eqb, ltb}
 use lib.ListN.{length, getD}
+use Rattle.slices.proofs.Impossible.{impossible}
 use Rattle.refusals.specs.Numbers.{shortContent, badCheck}
 use Rattle.crc.specs.Crc.{linkStart, crcOf}
 use Rattle.frame.specs.Stuffing as stuffing
@@ -25,7 +26,7 @@ module _ (n : ℕ) where
       by-tests : (t u : Bool) → cond t (refused shortContent) (cond u (frame (getD c 0 0) (getD c 1 0) (payloadOf c)) (refused badCheck)) ≡ refused n
           → (1 ≤ n) × (n ≤ 4)
       by-tests true u e = by-number shortContent (omega arith) (omega arith) e
-      by-tests false true e = let z : _≡_ {A = ℕ} 0 1 = cc in absurd (omega arith)
+      by-tests false true e = impossible cc
       by-tests false false e = by-number badCheck (omega arith) (omega arith) e
 
   pub run-number : (run : List ℕ) → readRun run ≡ refused n → (1 ≤ n) × (n ≤ 4)

@@ -9,6 +9,7 @@ use lib.ListN.{length, take, drop, getD, set, length-take, drop-of-length-le}
 use lib.Seq.{drop-cons, getD-take}
 use lib.Dec.{eqb}
 use borrow.Author.Tests.{eq-eqb, ne-eqb, eqb-true, eqb-false, lt-ltb, le-ltb}
+use Rattle.slices.proofs.Impossible.{impossible}
 use Rattle.refusals.specs.Numbers.{badFraming, longContent}
 use Rattle.frame.specs.Stuffing.{State, plain, escaped, escapes-next, stands-for, faulty, meaning, Unstuffed, content, refused, joined, closed, contentMax, unstuffFrom}
 use Rattle.frame.specs.Answers.{UnstuffsAs}
@@ -82,12 +83,12 @@ stored (content c) v held array r exit u =
           rw add-one at (u .array-filled c refl) ∙ rw (← same);
     }
 stored (refused n) v held array r exit u =
-    record { answers = u .answers; array-filled = λ c₁ e. let z : _≡_ {A = ℕ} 0 1 = cc in absurd (omega arith) }
+    record { answers = u .answers; array-filled = λ c₁ e. impossible cc }
 
 -- a refusal says nothing of the array
 pub stopped : (n held : ℕ) (array exit : List ℕ) → UnstuffsAs (refused n) held array (contentMax + n) exit
 stopped n held array exit =
-    record { answers = refl; array-filled = λ c₁ e. let z : _≡_ {A = ℕ} 0 1 = cc in absurd (omega arith) }
+    record { answers = refl; array-filled = λ c₁ e. impossible cc }
 
 -- at the closing flag, out of the escaped state, the content is whole
 pub ended : (held : ℕ) (array : List ℕ) → UnstuffsAs (content []) held array held array

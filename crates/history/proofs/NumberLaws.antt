@@ -15,6 +15,7 @@ use mir.Syntax.{w64}
 use mir.Val.{SFits, toZ, ofZ}
 use mir.ValLaws.{toZ-ofZ}
 use borrow.Author.Tests.{ltb-true}
+use Rattle.slices.proofs.Impossible.{impossible}
 use Rattle.history.specs.Numbers.{digit, digitsBefore, decimalOf, signedOf}
 
 -- how far the spelling is: rest is still to be spelled, into the places up to left, before what stands behind them
@@ -70,5 +71,4 @@ pub signed-other : (z : ℤ) → SFits w64 z → ltZ (toZ w64 (ofZ w64 z)) (pos 
 signed-other (pos n) f e = refl
 signed-other (negsuc n) f e =
     let below = rw (toZ-ofZ w64 (negsuc n) f) at e in
-    let z : _≡_ {A = ℕ} 0 1 = cc in
-    absurd (omega arith)
+    impossible cc

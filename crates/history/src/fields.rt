@@ -1,6 +1,6 @@
 // The head of a tagged field: its tag and, high byte first, its length.
 ghost use mathlib.Core.Path.{_≡_};
-ghost use Rattle.slices.specs.Pair.{pairOf};
+ghost use Rattle.slices.specs.HighFirst.{pairOf};
 ghost use Rattle.history.specs.Fields.{headOf, nameHead, tickHead};
 
 // The tags of fields behind the names.

@@ -5,9 +5,9 @@ use mathlib.Core.Bool.{Bool, true, false, cond}
 use mathlib.Core.List.{List, [], _∷_, _++_, map, append-assoc}
 use mathlib.Core.Option.{Option, some, none}
 use Prim.Native.Nat.{ℕ}
-use native.Mathlib.Omega.{arith}
 use lib.Dec.{eqb}
 use borrow.Author.Tests.{eqb-true}
+use Rattle.slices.proofs.Impossible.{impossible}
 use Rattle.refusals.specs.Numbers.{shortOutput}
 use Rattle.board.specs.Reading as reading
 use Rattle.board.specs.Reading.{Verdict}
@@ -89,13 +89,13 @@ frames-append l xs ys = ap framesOf (marks-append l xs ys) ∙ frames-joined (ma
 
 -- the ledger's last sequence is that of the last data frame that was closed
 pub repeats-last : (last : Option ℕ) (sequence : ℕ) → repeated last sequence ≡ true → last ≡ some sequence
-repeats-last none sequence e = let z : _≡_ {A = ℕ} 0 1 = cc in absurd (omega arith)
+repeats-last none sequence e = impossible cc
 repeats-last (some before) sequence e = cases (eqb sequence 0) (eqb sequence before) refl e
   where
     cases : (t u : Bool) → eqb sequence before ≡ u → cond t false u ≡ true → some before ≡ some sequence
-    cases true u f e = let z : _≡_ {A = ℕ} 0 1 = cc in absurd (omega arith)
+    cases true u f e = impossible cc
     cases false true f e = ap some (sym (eqb-true sequence before f))
-    cases false false f e = let z : _≡_ {A = ℕ} 0 1 = cc in absurd (omega arith)
+    cases false false f e = impossible cc
 
 pub read-sequence : (l : Ledger) (sequence : ℕ) (v : Verdict) → calls.afterReading (calls.afterNew l sequence) v .sequence ≡ some sequence
 read-sequence l sequence (reading.refused k) = refl

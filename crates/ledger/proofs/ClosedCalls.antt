@@ -8,6 +8,7 @@ use native.Mathlib.Omega.{arith}
 use lib.Dec.{eqb, ltb}
 use lib.ListN.{length, take}
 use borrow.Author.Tests.{eq-eqb, ne-eqb}
+use Rattle.slices.proofs.Impossible.{impossible}
 use Rattle.slices.specs.Put.{putAt}
 use Rattle.display.specs.declared.Display.{Display}
 use Rattle.ledger.specs.Ledger.{Ledger, start}
@@ -44,7 +45,7 @@ step-closes names l bytes reply packet sequence payload = by-room (ltb (length r
   where
     by-frame : (t : Taken) (frame : Option (List ℕ)) → t .frame ≡ frame → closedFrames frame ≡ frames.good sequence payload ∷ []
         → ClosedBy l reply packet sequence payload (pieceStep l t reply packet)
-    by-frame t none f e = let z : _≡_ {A = ℕ} 0 1 = cc in absurd (omega arith)
+    by-frame t none f e = impossible cc
     by-frame t (some run) f e =
         let is : frameOf run ≡ frames.good sequence payload = cc in
         record { run = t .run; count = t .count; gives = rw (f, is); leaves = rw (f, is) }
@@ -53,7 +54,7 @@ step-closes names l bytes reply packet sequence payload = by-room (ltb (length r
         → framesOf (marksFrom (l .run) (eventsOf (piece bytes reply packet) (asLeft names (cond t (shortStep l reply packet) (pieceStep l (taken (l .run) bytes 0) reply packet) .given))))
         ≡ frames.good sequence payload ∷ []
         → ClosedBy l reply packet sequence payload (cond t (shortStep l reply packet) (pieceStep l (taken (l .run) bytes 0) reply packet))
-    by-room true e = let z : _≡_ {A = ℕ} 0 1 = cc in absurd (omega arith)
+    by-room true e = impossible cc
     by-room false e =
         let t = taken (l .run) bytes 0 in
         let all : t .count - 0 ≡ t .count = omega arith in
@@ -61,7 +62,7 @@ step-closes names l bytes reply packet sequence payload = by-room (ltb (length r
 
 -- what it does, by the last sequence
 pub repeats : (last : Option ℕ) (sequence : ℕ) → last ≡ some sequence → (sequence ≡ 0 → ⊥) → repeated last sequence ≡ true
-repeats none sequence e more = let z : _≡_ {A = ℕ} 0 1 = cc in absurd (omega arith)
+repeats none sequence e more = impossible cc
 repeats (some before) sequence e more = let same : sequence ≡ before = cc in rw (ne-eqb sequence 0 more, eq-eqb sequence before same)
 
 pub zero-new : (last : Option ℕ) (sequence : ℕ) → sequence ≡ 0 → repeated last sequence ≡ false

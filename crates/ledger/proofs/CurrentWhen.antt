@@ -11,6 +11,7 @@ use lib.Dec.{ltb}
 use lib.IntN.{ℤ}
 use lib.ListN.{length, replicate}
 use borrow.Author.Tests.{lt-ltb, le-ltb, ltb-true, ltb-false}
+use Rattle.slices.proofs.Impossible.{impossible}
 use Rattle.rows.specs.Entries.{rowShowing}
 use Rattle.rows.specs.Names.{placeOf}
 use Rattle.rows.specs.Rows.{rowCount, rowName, freshRow}
@@ -84,32 +85,32 @@ module _ (names : List (List ℕ)) (w : WatchList) (listed : namesIn w ≡ some 
           let of-value : f .value ≡ value = cc in
           let of-age : f .ticks ≡ age = cc in
           (rw (← of-value, ← of-age) (f .last), rw (← of-age) (ltb-true (f .ticks) 30 young))
-      by-age f false young e = let z : _≡_ {A = ℕ} 0 1 = cc in absurd (omega arith)
+      by-age f false young e = impossible cc
 
       only : (Found names name events ⊎ (allAccepted names name events ≡ [])) → rowAt (end .board) place .state ≡ Current value age
           → LastAccepted names name value age events × (age < 30)
       only (inl f) e = by-age f (ltb (f .ticks) 30) refl (sym (by-last (f .value) (f .ticks) (f .last)) ∙ e)
-      only (inr quiet) e = let never = sym (by-none quiet) ∙ e in let z : _≡_ {A = ℕ} 0 1 = cc in absurd (omega arith)
+      only (inr quiet) e = let never = sym (by-none quiet) ∙ e in impossible cc
 
   -- THEOREM. It is silent exactly when that update closed 30 or more ticks ago.
   pub silent-exactly-when : (rowAt (end .board) place .state ≡ Silent) ↔ LongAgo names name events
   silent-exactly-when = (only (found names name events), λ l. by-last (l .value) (l .ticks) (l .last) ∙ rw (le-ltb (l .ticks) 30 (l .old)))
     where
       by-age : (f : Found names name events) (t : Bool) → ltb (f .ticks) 30 ≡ t → cond t (Current (f .value) (f .ticks)) Silent ≡ Silent → LongAgo names name events
-      by-age f true young e = let z : _≡_ {A = ℕ} 0 1 = cc in absurd (omega arith)
+      by-age f true young e = impossible cc
       by-age f false young e = record { value = f .value; ticks = f .ticks; last = f .last; old = ltb-false (f .ticks) 30 young }
 
       only : (Found names name events ⊎ (allAccepted names name events ≡ [])) → rowAt (end .board) place .state ≡ Silent → LongAgo names name events
       only (inl f) e = by-age f (ltb (f .ticks) 30) refl (sym (by-last (f .value) (f .ticks) (f .last)) ∙ e)
-      only (inr quiet) e = let never = sym (by-none quiet) ∙ e in let z : _≡_ {A = ℕ} 0 1 = cc in absurd (omega arith)
+      only (inr quiet) e = let never = sym (by-none quiet) ∙ e in impossible cc
 
   -- THEOREM. It is never exactly when no update was accepted for the name.
   pub never-exactly-when : (rowAt (end .board) place .state ≡ Never) ↔ (allAccepted names name events ≡ [])
   never-exactly-when = (only (found names name events), by-none)
     where
       by-age : (f : Found names name events) (t : Bool) → cond t (Current (f .value) (f .ticks)) Silent ≡ Never → allAccepted names name events ≡ []
-      by-age f true e = let z : _≡_ {A = ℕ} 0 1 = cc in absurd (omega arith)
-      by-age f false e = let z : _≡_ {A = ℕ} 0 1 = cc in absurd (omega arith)
+      by-age f true e = impossible cc
+      by-age f false e = impossible cc
 
       only : (Found names name events ⊎ (allAccepted names name events ≡ [])) → rowAt (end .board) place .state ≡ Never → allAccepted names name events ≡ []
       only (inl f) e = by-age f (ltb (f .ticks) 30) (sym (by-last (f .value) (f .ticks) (f .last)) ∙ e)

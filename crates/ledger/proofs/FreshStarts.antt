@@ -4,7 +4,7 @@ use mathlib.Core.Path.{_≡_, refl, sym, ap, _∙_}
 use mathlib.Core.List.{List, [], _∷_, _++_, append-assoc, append-nil}
 use mathlib.Core.Option.{Option, some, none}
 use Prim.Native.Nat.{ℕ}
-use native.Mathlib.Omega.{arith}
+use Rattle.slices.proofs.Impossible.{impossible}
 use Rattle.slices.proofs.Lent.{in-call}
 use Rattle.rows.specs.Rows.{boardOf}
 use Rattle.rows.specs.declared.Board.{Board}
@@ -33,7 +33,7 @@ from-list fields watched d told accepted started = cases (watchNames fields) ref
     cases : (o : Option (List (List ℕ))) → watchNames fields ≡ o → Began (as-bytes fields) d
     cases none e =
         let refused = sym accepted ∙ ap (λ (w : Watched). w .answer) (told ∙ ap asWatched e) in
-        let z : _≡_ {A = ℕ} 0 1 = cc in absurd (omega arith)
+        impossible cc
     cases (some names) e =
         let board-is = ap (λ (w : Watched). w .board) (told ∙ ap asWatched e) in
         record { names = names; listed = e; good = list-good fields names e; is = started ∙ ap display.fresh board-is }

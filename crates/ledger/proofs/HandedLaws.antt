@@ -10,6 +10,7 @@ use lib.Dec.{eqb, ltb}
 use lib.ListN.{length, take}
 use borrow.Author.Tests.{ltb-false}
 use Rattle.refusals.specs.Numbers.{unknownType, loadedAcknowledgement}
+use Rattle.slices.proofs.Impossible.{impossible}
 use Rattle.slices.specs.Put.{putAt}
 use Rattle.slices.proofs.PutLaws.{put-first}
 use Rattle.frame.specs.Content as content
@@ -45,16 +46,16 @@ unfolding frameOf
 payload-bounded run sequence payload e = by-read (readRun run) refl e
   where
     by-read : (found : content.Read) → readRun run ≡ found → byType found ≡ frames.good sequence payload → length payload ≤ 383
-    by-read (content.refused n) f e = let z : _≡_ {A = ℕ} 0 1 = cc in absurd (omega arith)
+    by-read (content.refused n) f e = impossible cc
     by-read (content.frame kind other bytes) f e = by-type (eqb kind 0x01) (eqb kind 0x02) (eqb (length bytes) 0) e
       where
         by-type : (t u v : Bool)
             → cond t (frames.good other bytes) (cond u (cond v (frames.acknowledgement other) (frames.refused loadedAcknowledgement)) (frames.refused unknownType)) ≡ frames.good sequence payload
             → length payload ≤ 383
         by-type true u v e = let same : bytes ≡ payload = cc in rw (← same) (run-bounded run kind other bytes f)
-        by-type false true true e = let z : _≡_ {A = ℕ} 0 1 = cc in absurd (omega arith)
-        by-type false true false e = let z : _≡_ {A = ℕ} 0 1 = cc in absurd (omega arith)
-        by-type false false v e = let z : _≡_ {A = ℕ} 0 1 = cc in absurd (omega arith)
+        by-type false true true e = impossible cc
+        by-type false true false e = impossible cc
+        by-type false false v e = impossible cc
 
 -- a frame that was closed, with buffers that have room
 module _ (names : List (List ℕ)) (l : Ledger) (reply packet : List ℕ) (reply-room : 9 ≤ length reply) (packet-room : 383 ≤ length packet) where

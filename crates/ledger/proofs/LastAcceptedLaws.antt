@@ -7,6 +7,7 @@ use mathlib.Core.Logic.{_⊎_, inl, inr}
 use Prim.Native.Nat.{ℕ, zero, suc, _+_}
 use native.Mathlib.Omega.{arith}
 use lib.IntN.{ℤ}
+use Rattle.slices.proofs.Impossible.{impossible}
 use Rattle.ledger.specs.Ledger.{Update, older}
 use Rattle.ledger.specs.BoardEvents.{BoardEvent}
 use Rattle.ledger.specs.LastAccepted.{acceptedFor, inFront, allAccepted, tickOf, ticksIn, LastAccepted}
@@ -40,7 +41,7 @@ module _ (names : List (List ℕ)) (name : List ℕ) where
     where
       by-first : (o : Option ℤ) → inFront o (allAccepted names name more) ≡ [] → (o ≡ none) × (allAccepted names name more ≡ [])
       by-first none e = (refl, e)
-      by-first (some value) e = let z : _≡_ {A = ℕ} 0 1 = cc in absurd (omega arith)
+      by-first (some value) e = impossible cc
 
   quiet-ages : (events : List BoardEvent) (last : Option Update) → allAccepted names name events ≡ [] → lastUpdate names name events last ≡ aged (ticksIn events) last
   unfolding lastUpdate ticksIn

@@ -6,6 +6,7 @@ use mathlib.Core.Option.{some, none}
 use Prim.Native.Nat.{ℕ, suc, _-_, _≤_}
 use native.Mathlib.Omega.{arith}
 use lib.ListN.{getD}
+use Rattle.slices.proofs.Impossible.{impossible}
 use Rattle.slices.specs.Same.{sameBytes}
 use Rattle.slices.proofs.SameLaws.{same-equal}
 use Rattle.rows.specs.Entries as shown
@@ -51,7 +52,7 @@ pub record RowAt (f : List ℕ → shown.Entry) (rest : List Row) (name : List �
 pub row-at : (f : List ℕ → shown.Entry) (rest : List Row) (name : List ℕ) (names : List (List ℕ)) (a place : ℕ) → placeFrom a name names ≡ some place
     → Fits names → RowAt f rest name names a place
 unfolding placeFrom
-row-at f rest name [] a place e fit = let z : _≡_ {A = ℕ} 0 1 = cc in absurd (omega arith)
+row-at f rest name [] a place e fit = impossible cc
 row-at f rest name (other ∷ names) a place e fit = cases (sameBytes other name) refl (λ later. row-at f rest name names (suc a) place later (fit .1)) e
   where
     cases : (t : Bool) → sameBytes other name ≡ t → (placeFrom (suc a) name names ≡ some place → RowAt f rest name names (suc a) place)

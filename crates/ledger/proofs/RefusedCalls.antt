@@ -6,11 +6,11 @@ use mathlib.Core.List.{List, [], _∷_, map}
 use mathlib.Core.Option.{Option, some, none}
 use mathlib.Core.Logic.{_⊎_, inl, inr}
 use Prim.Native.Nat.{ℕ, _<_}
-use native.Mathlib.Omega.{arith}
 use lib.Dec.{ltb}
 use lib.ListN.{length, take}
 use borrow.Author.Tests.{ltb-true, ltb-false}
 use Rattle.refusals.specs.Numbers.{shortOutput}
+use Rattle.slices.proofs.Impossible.{impossible}
 use Rattle.slices.specs.Put.{putAt}
 use Rattle.rows.specs.Names.{placeOf}
 use Rattle.rows.specs.Rows.{rowNames, watched}
@@ -71,7 +71,7 @@ refused-stays board reading.endMark k e = refl
 refused-stays board (reading.update name value) k e = by-place (placeOf name (rowNames board)) e
   where
     by-place : (o : Option ℕ) → updated board value o .answer ≡ board-says.Refused k → updated board value o .board ≡ board
-    by-place (some place) e = let z : _≡_ {A = ℕ} 0 1 = cc in absurd (omega arith)
+    by-place (some place) e = impossible cc
     by-place none e = refl
 
 -- a call that answered a new frame closed one
@@ -87,8 +87,8 @@ module _ (names : List (List ℕ)) (l : Ledger) (bytes reply packet : List ℕ) 
 
   frame-found : (run : List ℕ) → t .frame ≡ some run → count ≡ t .count → (f : Frame) → frameOf run ≡ f
       → New m size answer ≡ asAnswer names (closed (withRun l (t .run)) f .answer) → NewFound l bytes count
-  frame-found run e counted (frames.refused n) is said = let z : _≡_ {A = ℕ} 0 1 = cc in absurd (omega arith)
-  frame-found run e counted (frames.acknowledgement sequence) is said = let z : _≡_ {A = ℕ} 0 1 = cc in absurd (omega arith)
+  frame-found run e counted (frames.refused n) is said = impossible cc
+  frame-found run e counted (frames.acknowledgement sequence) is said = impossible cc
   frame-found run e counted (frames.good sequence payload) is said =
       record { sequence = sequence; payload = payload; counted = counted; closes = ap closedFrames e ∙ ap (λ (f : Frame). f ∷ []) is }
 
@@ -98,13 +98,13 @@ module _ (names : List (List ℕ)) (l : Ledger) (bytes reply packet : List ℕ) 
     where
       by-frame : (frame : Option (List ℕ)) → t .frame ≡ frame → count ≡ t .count
           → New m size answer ≡ asAnswer names (effectOf (withRun l (t .run)) frame .answer) → NewFound l bytes count
-      by-frame none e counted said = let z : _≡_ {A = ℕ} 0 1 = cc in absurd (omega arith)
+      by-frame none e counted said = impossible cc
       by-frame (some run) e counted said = frame-found run e counted (frameOf run) refl said
 
       by-room : (short : Bool)
           → took count (New m size answer) reply₁ packet₁ ≡ asLeft names (cond short (shortStep l reply packet) (pieceStep l t reply packet) .given)
           → NewFound l bytes count
-      by-room true said = let z : _≡_ {A = ℕ} 0 1 = cc in absurd (omega arith)
+      by-room true said = impossible cc
       by-room false said =
           let counted : count ≡ t .count = cc in
           let answered : New m size answer ≡ asAnswer names (effectOf (withRun l (t .run)) (t .frame) .answer) = cc in
@@ -154,8 +154,7 @@ refused-packet names w listed d begins cs left end chain bytes reply packet coun
     by-last : (t : Bool) → repeated (l .sequence) (found .sequence) ≡ t → Unread (history cs left) (map byte (take count bytes)) reply packet end reply₁ packet₁ end₁
     by-last true e =
         let said = dropped names cs left end a bytes reply packet more end₁ next (found .sequence) (found .payload) closes e .answers in
-        let z : _≡_ {A = ℕ} 0 1 = cc in
-        absurd (omega arith)
+        impossible cc
     by-last false e =
         let new = read-new names cs left end a bytes reply packet more end₁ next (found .sequence) (found .payload) closes e in
         let said = new .answers in

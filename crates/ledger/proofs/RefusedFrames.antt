@@ -10,6 +10,7 @@ use lib.Dec.{eqb}
 use lib.ListN.{length, take}
 use borrow.Author.Tests.{le-ltb}
 use Rattle.refusals.specs.Numbers.{unknownType, loadedAcknowledgement}
+use Rattle.slices.proofs.Impossible.{impossible}
 use Rattle.slices.specs.Put.{putAt}
 use Rattle.frame.specs.Content as content
 use Rattle.frame.specs.Reading.{readRun}
@@ -47,8 +48,8 @@ frame-number run n e = by-read (readRun run) refl e
     by-type : (sequence : ℕ) (payload : List ℕ) (t u v : Bool)
         → cond t (frames.good sequence payload) (cond u (cond v (frames.acknowledgement sequence) (frames.refused loadedAcknowledgement)) (frames.refused unknownType))
         ≡ frames.refused n → (1 ≤ n) × (n ≤ 6)
-    by-type sequence payload true u v e = let z : _≡_ {A = ℕ} 0 1 = cc in absurd (omega arith)
-    by-type sequence payload false true true e = let z : _≡_ {A = ℕ} 0 1 = cc in absurd (omega arith)
+    by-type sequence payload true u v e = impossible cc
+    by-type sequence payload false true true e = impossible cc
     by-type sequence payload false true false e = by-number loadedAcknowledgement (omega arith) (omega arith) e
     by-type sequence payload false false v e = by-number unknownType (omega arith) (omega arith) e
 
@@ -71,16 +72,16 @@ record Kept (l : Ledger) (n : ℕ) (frame : Option (List ℕ)) : Type 0 where
 module _ (names : List (List ℕ)) (n : ℕ) (l : Ledger) where
   frame-refused : (f : Frame) → asAnswer names (closed l f .answer) ≡ Refused n → f ≡ frames.refused n
   frame-refused (frames.refused k) e = let same : k ≡ n = cc in ap frames.refused same
-  frame-refused (frames.acknowledgement sequence) e = let z : _≡_ {A = ℕ} 0 1 = cc in absurd (omega arith)
+  frame-refused (frames.acknowledgement sequence) e = impossible cc
   frame-refused (frames.good sequence payload) e = by-last (repeated (l .sequence) sequence) e
     where
       by-last : (t : Bool) → asAnswer names (cond t (calls.repeatedFrame l sequence) (calls.newFrame l sequence payload) .answer) ≡ Refused n
           → frames.good sequence payload ≡ frames.refused n
-      by-last true e = let z : _≡_ {A = ℕ} 0 1 = cc in absurd (omega arith)
-      by-last false e = let z : _≡_ {A = ℕ} 0 1 = cc in absurd (omega arith)
+      by-last true e = impossible cc
+      by-last false e = impossible cc
 
   effect-kept : (frame : Option (List ℕ)) → asAnswer names (effectOf l frame .answer) ≡ Refused n → Kept l n frame
-  effect-kept none e = let z : _≡_ {A = ℕ} 0 1 = cc in absurd (omega arith)
+  effect-kept none e = impossible cc
   effect-kept (some run) e =
       let is = frame-refused (frameOf run) e in
       record {

@@ -9,6 +9,7 @@ use native.Mathlib.Omega.{arith}
 use lib.Dec.{eqb}
 use lib.ListN.{length}
 use borrow.Author.Tests.{eqb-true, eqb-false, eq-eqb, ne-eqb}
+use Rattle.slices.proofs.Impossible.{impossible}
 use Rattle.slices.proofs.PutLaws.{length-put}
 use Rattle.frame.specs.Stuffing.{flagByte, contentMax}
 use Rattle.frame.specs.Content as content
@@ -54,16 +55,16 @@ pub record Agreement (t : Taken) (w : Walk) : Type 0 where
 -- a frame always has an answer
 frame-answers : (found : content.Read) (previous : Last) (before : Counts) → readOutcome found previous before .answer ≡ says.Nothing → ⊥
 unfolding dataFrame
-frame-answers (content.refused n) previous before e = let z : _≡_ {A = ℕ} 0 1 = cc in omega arith
+frame-answers (content.refused n) previous before e = impossible cc
 frame-answers (content.frame kind sequence payload) previous before e =
     cases (eqb kind dataType) (eqb kind acknowledgementType) (repeats previous sequence) (eqb (length payload) 0) refl refl refl refl
   where
     cases : (t u v w : Bool) → eqb kind dataType ≡ t → eqb kind acknowledgementType ≡ u → repeats previous sequence ≡ v → eqb (length payload) 0 ≡ w → ⊥
-    cases true u true w a b c d = let told = rw (a, c) at e in let z : _≡_ {A = ℕ} 0 1 = cc in omega arith
-    cases true u false w a b c d = let told = rw (a, c) at e in let z : _≡_ {A = ℕ} 0 1 = cc in omega arith
-    cases false true v true a b c d = let told = rw (a, b, d) at e in let z : _≡_ {A = ℕ} 0 1 = cc in omega arith
-    cases false true v false a b c d = let told = rw (a, b, d) at e in let z : _≡_ {A = ℕ} 0 1 = cc in omega arith
-    cases false false v w a b c d = let told = rw (a, b) at e in let z : _≡_ {A = ℕ} 0 1 = cc in omega arith
+    cases true u true w a b c d = let told = rw (a, c) at e in impossible cc
+    cases true u false w a b c d = let told = rw (a, c) at e in impossible cc
+    cases false true v true a b c d = let told = rw (a, b, d) at e in impossible cc
+    cases false true v false a b c d = let told = rw (a, b, d) at e in impossible cc
+    cases false false v w a b c d = let told = rw (a, b) at e in impossible cc
 
 -- a byte at the end of the run is seen last
 seen-snoc : (s : Seen) (run : List ℕ) (b : ℕ) → seenRun s (run ++ (b ∷ [])) ≡ seenAfter (seenRun s run) b

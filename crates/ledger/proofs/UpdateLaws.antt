@@ -5,9 +5,9 @@ use mathlib.Core.Bool.{Bool, true, false, cond, not}
 use mathlib.Core.List.{List, [], _∷_, _++_, map}
 use mathlib.Core.Option.{Option, some, none}
 use Prim.Native.Nat.{ℕ, zero, suc}
-use native.Mathlib.Omega.{arith}
 use lib.IntN.{ℤ}
 use borrow.Author.Tests.{not-true}
+use Rattle.slices.proofs.Impossible.{impossible}
 use Rattle.slices.specs.Same.{sameBytes}
 use Rattle.slices.proofs.SameLaws.{same-equal}
 use Rattle.slices.proofs.TestLaws.{Both, both}
@@ -70,7 +70,7 @@ others-kept name value (e ∷ es) a out = cases (sameBytes (e .name) name) refl 
     cases : (t : Bool) → sameBytes (e .name) name ≡ t
         → (isSome (placeFrom (suc a) name (map nameOf es)) ≡ false → map (onReading (reading.update name value)) es ≡ es)
         → map (onReading (reading.update name value)) (e ∷ es) ≡ e ∷ es
-    cases true f rest = let told = rw f at out in let z : _≡_ {A = ℕ} 0 1 = cc in absurd (omega arith)
+    cases true f rest = let told = rw f at out in impossible cc
     cases false f rest = let told = rw f at out in rw f (ap (λ (l : List Entry). e ∷ l) (rest told))
 
 update-followed : (name : List ℕ) (value : ℤ) (es : List Entry) → distinct (map nameOf es) ≡ true

@@ -9,6 +9,7 @@ use lib.Dec.{eqb}
 use lib.ListN.{length}
 use borrow.Author.Tests.{eq-eqb, ne-eqb}
 use Rattle.refusals.specs.Numbers.{unknownType}
+use Rattle.slices.proofs.Impossible.{impossible}
 use Rattle.slices.specs.Each.{each}
 use Rattle.crc.specs.Crc.{linkStart, crcOf}
 use Rattle.frame.specs.Stuffing.{stuff}
@@ -59,7 +60,7 @@ module _ (q : ℕ) (reply : List ℕ) (answer : declared.Written) (exit : List �
   not-refused n told =
       let w′ = rw (acknowledgement-written (length reply) q h) at w in
       let other : declared.the-variants.Refused n ≡ declared.the-variants.Length (length (acknowledgement q)) = sym told ∙ w′ .answers in
-      let z : _≡_ {A = ℕ} 0 1 = cc in omega arith
+      impossible cc
 
 module _ (q : ℕ) (payload : List ℕ) (previous : Last) (before : Counts) where
   pub data-again : repeats previous q ≡ true → dataFrame q payload previous before ≡ againFrame q previous before

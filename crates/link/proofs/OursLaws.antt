@@ -8,6 +8,7 @@ use native.Mathlib.Omega.{arith}
 use lib.Dec.{eqb, ltb}
 use lib.ListN.{length}
 use borrow.Author.Tests.{eqb-true, eqb-false, ltb-true, ltb-false}
+use Rattle.slices.proofs.Impossible.{impossible}
 use Rattle.frame.specs.Stuffing.{contentMax, flagByte}
 use Rattle.frame.specs.Content.{payloadMax}
 use Rattle.link.specs.declared.reader.Reader.{Reader}
@@ -29,8 +30,8 @@ module _ (content : List ℕ) (reader : Reader) (whole : length content ≡ cont
     where
       by-end : (end : Ended) → flagTurn content end ≡ goes-on content₁ reader₁ → reader₁ .length ≤ contentMax
       by-end ends.Nothing f = let none : reader₁ .length ≡ 0 = cc in omega arith
-      by-end (ends.Content n) f = let z : _≡_ {A = ℕ} 0 1 = cc in absurd (omega arith)
-      by-end (ends.Refused n) f = let z : _≡_ {A = ℕ} 0 1 = cc in absurd (omega arith)
+      by-end (ends.Content n) f = impossible cc
+      by-end (ends.Refused n) f = impossible cc
 
       by-flag : (t : Bool) → eqb b flagByte ≡ t → reader₁ .length ≤ contentMax
       by-flag true f = by-end (endedBy reader) (sym (turn-flag content reader b (eqb-true b flagByte f)) ∙ e)

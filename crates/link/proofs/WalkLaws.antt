@@ -4,9 +4,9 @@ use mathlib.Core.Bool.{Bool, true, false, cond}
 use mathlib.Core.List.{List, [], _∷_, _++_}
 use Prim.Native.Nat.{ℕ, suc, _+_, _≤_, _<_}
 use native.Mathlib.Numerals.{add-one}
-use native.Mathlib.Omega.{arith}
 use lib.Dec.{eqb}
 use lib.ListN.{length, drop, getD, drop-of-length-le}
+use Rattle.slices.proofs.Impossible.{impossible}
 use Rattle.slices.proofs.PutLaws.{length-put}
 use lib.Seq.{drop-cons}
 use borrow.Author.Tests.{eq-eqb, ne-eqb, eqb-true, eqb-false}
@@ -51,8 +51,8 @@ turn-length content reader b content₁ reader₁ e = by-flag (eqb b flagByte) r
   where
     by-end : (end : Ended) → flagTurn content end ≡ goes-on content₁ reader₁ → length content₁ ≡ length content
     by-end ends.Nothing f = let same : content ≡ content₁ = cc in ap length (sym same)
-    by-end (ends.Content n) f = let z : _≡_ {A = ℕ} 0 1 = cc in absurd (omega arith)
-    by-end (ends.Refused n) f = let z : _≡_ {A = ℕ} 0 1 = cc in absurd (omega arith)
+    by-end (ends.Content n) f = impossible cc
+    by-end (ends.Refused n) f = impossible cc
 
     by-flag : (t : Bool) → eqb b flagByte ≡ t → length content₁ ≡ length content
     by-flag true f = by-end (endedBy reader) (sym (turn-flag content reader b (eqb-true b flagByte f)) ∙ e)
@@ -78,15 +78,15 @@ unfolding turnOf
 stops-at-an-end content reader b e = by-flag (eqb b flagByte) e
   where
     by-end : (end : Ended) → flagTurn content end ≡ stops ends.Nothing → ⊥
-    by-end ends.Nothing f = let z : _≡_ {A = ℕ} 0 1 = cc in omega arith
-    by-end (ends.Content n) f = let z : _≡_ {A = ℕ} 0 1 = cc in omega arith
-    by-end (ends.Refused n) f = let z : _≡_ {A = ℕ} 0 1 = cc in omega arith
+    by-end ends.Nothing f = impossible cc
+    by-end (ends.Content n) f = impossible cc
+    by-end (ends.Refused n) f = impossible cc
 
     by-flag : (t : Bool)
         → cond t (flagTurn content (endedBy reader)) (goes-on (contentAfter content (reader .length) (stepOf reader b)) (stepOf reader b .reader)) ≡ stops ends.Nothing
         → ⊥
     by-flag true f = by-end (endedBy reader) f
-    by-flag false f = let z : _≡_ {A = ℕ} 0 1 = cc in omega arith
+    by-flag false f = impossible cc
 
 -- a walk goes on over more bytes, unless it has stopped
 abbrev pub onwardBy : Ended → Walk → List ℕ → Walk

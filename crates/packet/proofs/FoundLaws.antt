@@ -10,7 +10,8 @@ use lib.Dec.{eqb}
 use lib.ListN.{length, take, drop, getD, length-append, length-drop, take-append-drop}
 use lib.Seq.{take-append-seam, drop-append-add, length-take-le}
 use Rattle.refusals.specs.Numbers.{noDataPacket}
-use Rattle.slices.specs.Pair.{pairOf}
+use Rattle.slices.proofs.Impossible.{impossible}
+use Rattle.slices.specs.HighFirst.{pairOf}
 use Rattle.packet.specs.Items.{Item, itemsOf, itemBytes, itemsBytes, headOf, firstOf, valueBytes, valueIn, behindOf}
 use Rattle.packet.specs.Packet.{refused, isData, withItems, packetOf, judgedItems, packetItems}
 use Rattle.packet.specs.Answers.{placed, past, headIn, findIn, behindIn, itemAt}
@@ -26,7 +27,7 @@ pub record Reads (bytes : List ℕ) (found : Found) (item : Option Item) : Type 
 
 nothing-reads : (bytes : List ℕ) → Reads bytes Nothing none
 unfolding itemAt
-nothing-reads bytes = record { same = refl; within = λ kind start size e. let z : _≡_ {A = ℕ} 0 1 = cc in absurd (omega arith) }
+nothing-reads bytes = record { same = refl; within = λ kind start size e. impossible cc }
 
 -- an item behind some bytes
 module _ (before : List ℕ) (item : Item) (items : List Item) where

@@ -10,6 +10,7 @@ use lib.Dec.{leb, eqb}
 use lib.ListN.{length, take, drop, length-append, length-drop, take-append-drop}
 use lib.Seq.{length-take-le}
 use borrow.Author.Tests.{leb-true}
+use Rattle.slices.proofs.Impossible.{impossible}
 use Rattle.packet.specs.Items.{Item, inFront, itemsUpTo, itemsFilling, emptyIfEof, eofsEmpty, ifEofsEmpty, itemsOf, itemBytes, itemsBytes, countOf}
 
 -- any bound of at least the number of bytes gives the same
@@ -90,7 +91,7 @@ pub record Kept {A : Type 0} (t : Bool) (o : Option A) (a : A) : Type 0 where
 
 kept : {A : Type 0} (t : Bool) (o : Option A) (a : A) → cond t o none ≡ some a → Kept t o a
 kept true o a e = record { test = refl; same = e }
-kept false o a e = let z : _≡_ {A = ℕ} 0 1 = cc in absurd (omega arith)
+kept false o a e = impossible cc
 
 -- what stood behind the item that was put in front
 record Behind (item : Item) (read : Option (List Item)) (items : List Item) : Type 0 where
@@ -100,15 +101,15 @@ record Behind (item : Item) (read : Option (List Item)) (items : List Item) : Ty
 
 behind : (item : Item) (read : Option (List Item)) (items : List Item) → inFront item read ≡ some items → Behind item read items
 unfolding inFront
-behind item none items e = let z : _≡_ {A = ℕ} 0 1 = cc in absurd (omega arith)
+behind item none items e = impossible cc
 behind item (some rest) items e = record { rest = rest; from = refl; is = cc }
 
 fills-up-to : (most : ℕ) (bytes : List ℕ) (items : List Item) → itemsUpTo most bytes ≡ some items → itemsBytes items ≡ bytes
 unfolding itemsUpTo itemsBytes itemBytes
 fills-up-to zero [] items e = let i : items ≡ [] = cc in ap itemsBytes i
-fills-up-to zero (kind ∷ bytes) items e = let z : _≡_ {A = ℕ} 0 1 = cc in absurd (omega arith)
+fills-up-to zero (kind ∷ bytes) items e = impossible cc
 fills-up-to (suc most) [] items e = let i : items ≡ [] = cc in ap itemsBytes i
-fills-up-to (suc most) (kind ∷ []) items e = let z : _≡_ {A = ℕ} 0 1 = cc in absurd (omega arith)
+fills-up-to (suc most) (kind ∷ []) items e = impossible cc
 fills-up-to (suc most) (kind ∷ size ∷ rest) items e =
     let item : Item = record { kind = kind; value = take size rest } in
     let whole = kept (leb size (length rest)) (inFront item (itemsUpTo most (drop size rest))) items e in
@@ -123,7 +124,7 @@ unfolding itemsOf itemsFilling ifEofsEmpty
 items-fill bytes items e = cases (itemsUpTo (length bytes) bytes) refl e
   where
     cases : (read : Option (List Item)) → itemsUpTo (length bytes) bytes ≡ read → ifEofsEmpty read ≡ some items → itemsBytes items ≡ bytes
-    cases none r e = let z : _≡_ {A = ℕ} 0 1 = cc in absurd (omega arith)
+    cases none r e = impossible cc
     cases (some found) r e =
         let k = kept (eofsEmpty found) (some found) items e in
         let i : found ≡ items = cc in

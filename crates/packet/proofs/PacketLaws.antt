@@ -4,12 +4,12 @@ use mathlib.Core.Bool.{Bool, true, false, cond}
 use mathlib.Core.List.{List, []}
 use mathlib.Core.Option.{Option, none, some}
 use Prim.Native.Nat.{ℕ, _≤_}
-use native.Mathlib.Omega.{arith}
 use lib.Dec.{leb, eqb}
 use lib.ListN.{length, getD, drop}
 use borrow.Author.Tests.{leb-true}
 use Rattle.refusals.specs.Numbers.{noDataPacket}
-use Rattle.slices.specs.Pair.{pairOf}
+use Rattle.slices.proofs.Impossible.{impossible}
+use Rattle.slices.specs.HighFirst.{pairOf}
 use Rattle.slices.proofs.TestLaws.{both}
 use Rattle.packet.specs.Items.{Item, itemsOf, countOf}
 use Rattle.packet.specs.Packet.{refused, isData, withItems, packetOf, judgedItems, packetItems}
@@ -30,25 +30,25 @@ module _ (opcode id kind : ℕ) where
       cond t (tallyOf 4 kind read) Broken ≡ Items all count first behind head
       → record { all = all; count = count; first = first; behind = behind } ≡ surveyOf kind (judgedItems (cond t (withItems opcode id read) (refused noDataPacket)))
   unfolding tallyOf withItems judgedItems
-  told-by false read e = let z : _≡_ {A = ℕ} 0 1 = cc in absurd (omega arith)
-  told-by true none e = let z : _≡_ {A = ℕ} 0 1 = cc in absurd (omega arith)
+  told-by false read e = impossible cc
+  told-by true none e = impossible cc
   told-by true (some items) e = cc
 
   broken-by : (t : Bool) (read : Option (List Item)) → cond t (tallyOf 4 kind read) Broken ≡ Broken → surveyOf kind [] ≡ surveyOf kind (judgedItems (cond t (withItems opcode id read) (refused noDataPacket)))
   unfolding tallyOf withItems judgedItems
   broken-by false read e = refl
   broken-by true none e = refl
-  broken-by true (some items) e = let z : _≡_ {A = ℕ} 0 1 = cc in absurd (omega arith)
+  broken-by true (some items) e = impossible cc
 
   read-by : (read : Option (List Item)) {all count : ℕ} {first behind head : Found} → tallyOf 4 kind read ≡ Items all count first behind head → readingOf (withItems opcode id read) ≡ Packet opcode id
   unfolding tallyOf withItems readingOf
-  read-by none e = let z : _≡_ {A = ℕ} 0 1 = cc in absurd (omega arith)
+  read-by none e = impossible cc
   read-by (some items) e = refl
 
   refused-by : (read : Option (List Item)) → tallyOf 4 kind read ≡ Broken → readingOf (withItems opcode id read) ≡ Refused 10
   unfolding tallyOf withItems readingOf
   refused-by none e = refl
-  refused-by (some items) e = let z : _≡_ {A = ℕ} 0 1 = cc in absurd (omega arith)
+  refused-by (some items) e = impossible cc
 
 module _ (bytes : List ℕ) (kind : ℕ) where
   -- what the reader found is what there is

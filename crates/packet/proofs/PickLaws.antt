@@ -8,6 +8,7 @@ use Prim.Native.Nat.{ℕ, _+_}
 use native.Mathlib.Omega.{arith}
 use lib.Dec.{eqb}
 use borrow.Author.Tests.{eqb-true, eq-eqb}
+use Rattle.slices.proofs.Impossible.{impossible}
 use Rattle.packet.specs.Items.{Item, countOf, headOf, firstOf, behindOf}
 
 -- the counts of two lists add up
@@ -23,7 +24,7 @@ first-none kind [] h = refl
 first-none kind (x ∷ xs) h = cases (eqb (x .kind) kind) (λ e. first-none kind xs e) h
   where
     cases : (t : Bool) → (firstOf kind xs ≡ none → countOf kind xs ≡ 0) → cond t (some x) (firstOf kind xs) ≡ none → cond t 1 0 + countOf kind xs ≡ 0
-    cases true below h = let z : _≡_ {A = ℕ} 0 1 = cc in absurd (omega arith)
+    cases true below h = impossible cc
     cases false below h = let e : countOf kind xs ≡ 0 = below h in omega arith
 
 -- the items around the first of a kind
@@ -38,7 +39,7 @@ pub record Around (kind : ℕ) (items : List Item) (item : Item) : Type 0 where
 -- the first item of a kind has none of it before it, and what stands behind it is the item right behind
 pub first-around : (kind : ℕ) (items : List Item) (item : Item) → firstOf kind items ≡ some item → Around kind items item
 unfolding countOf firstOf behindOf
-first-around kind [] item h = let z : _≡_ {A = ℕ} 0 1 = cc in absurd (omega arith)
+first-around kind [] item h = impossible cc
 first-around kind (x ∷ xs) item h = cases (eqb (x .kind) kind) refl (λ e. first-around kind xs item e) h
   where
     cases : (t : Bool) → eqb (x .kind) kind ≡ t → (firstOf kind xs ≡ some item → Around kind xs item) → cond t (some x) (firstOf kind xs) ≡ some item → Around kind (x ∷ xs) item

@@ -11,7 +11,8 @@ use lib.ListN.{length, take, getD, length-append}
 use lib.Seq.{take-append-seam, drop-append-seam}
 use borrow.Author.Tests.{le-leb, leb-true}
 use Rattle.refusals.specs.Numbers.{badName, badFragment}
-use Rattle.slices.specs.Pair.{pairOf}
+use Rattle.slices.proofs.Impossible.{impossible}
+use Rattle.slices.specs.HighFirst.{pairOf}
 use Rattle.slices.specs.Put.{putAt}
 use Rattle.slices.proofs.PutLaws.{put-told}
 use Rattle.slices.proofs.Lent.{Slice}
@@ -77,11 +78,11 @@ written-back :
     → Writes (cond t (fitted (length out) (packetBytes p)) (refusedBy number)) out after (Length n)
     → ReadAs p (take n after)
 unfolding fitted answerOf bytesOf
-written-back p false number out after n empty w = let a = w .answered in let z : _≡_ {A = ℕ} 0 1 = cc in absurd (omega arith)
+written-back p false number out after n empty w = let a = w .answered in impossible cc
 written-back p true number out after n empty w = cases (leb (length (packetBytes p)) (length out)) refl
   where
     cases : (fits : Bool) → leb (length (packetBytes p)) (length out) ≡ fits → ReadAs p (take n after)
-    cases false e = let a = rw e at (w .answered) in let z : _≡_ {A = ℕ} 0 1 = cc in absurd (omega arith)
+    cases false e = let a = rw e at (w .answered) in impossible cc
     cases true e =
         let a : Length n ≡ Length (length (packetBytes p)) = rw e at (w .answered) in
         let size : n ≡ length (packetBytes p) = cc in

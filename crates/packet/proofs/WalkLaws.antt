@@ -9,6 +9,7 @@ use lib.Dec.{leb, eqb}
 use lib.ListN.{length, getD, take, drop, length-drop}
 use lib.Seq.{length-take-le}
 use borrow.Author.Tests.{le-leb, leb-true}
+use Rattle.slices.proofs.Impossible.{impossible}
 use Rattle.slices.proofs.PartLaws.{part-rest}
 use Rattle.slices.proofs.TestLaws.{Both, both}
 use Rattle.packet.specs.Items.{Item, inFront, eofKind, emptyIfEof, itemsOf, countOf}
@@ -49,8 +50,8 @@ eof-test kind size rest fits = rw (length-take-le size rest fits)
 -- an item, and the items behind it
 pub whole : (bytes : List ℕ) → beginsWithItem bytes ≡ true → itemsOf bytes ≡ inFront (firstItem bytes) (itemsOf (drop (getD bytes 1 0 + 2) bytes))
 unfolding beginsWithItem
-whole [] h = let z : _≡_ {A = ℕ} 0 1 = cc in absurd (omega arith)
-whole (kind ∷ []) h = let z : _≡_ {A = ℕ} 0 1 = cc in absurd (omega arith)
+whole [] h = impossible cc
+whole (kind ∷ []) h = impossible cc
 whole (kind ∷ size ∷ rest) h =
     let room : size + 2 ≤ suc (suc (length rest)) = begins-room (kind ∷ size ∷ rest) h in
     let fits : size ≤ length rest = omega arith in

@@ -6,7 +6,7 @@ use mathlib.Core.Option.{Option, none, some}
 use lib.Dec.{leb, eqb}
 use lib.ListN.{length, getD, drop}
 use Rattle.refusals.specs.Numbers.{noDataPacket, badItems}
-use Rattle.slices.specs.Pair.{pairOf}
+use Rattle.slices.specs.HighFirst.{pairOf}
 use Rattle.packet.specs.Items.{Item, itemsOf, itemsBytes}
 
 pub record Packet : Type 0 where

@@ -8,6 +8,7 @@ use Prim.Native.Nat.{ℕ, zero, suc, _+_, _-_, _≤_, _<_}
 use native.Mathlib.Omega.{arith}
 use lib.IntN.{ℤ}
 use lib.ListN.{length, replicate, length-map}
+use Rattle.slices.proofs.Impossible.{impossible}
 use Rattle.slices.specs.Same.{sameBytes}
 use Rattle.rows.specs.Names.{placeFrom, placeOf}
 use Rattle.rows.specs.Rows.{rowCount, rowName, rowNames, tickRow, tickBoard, freshRow, boardOf, changeAt, updateRow, updateBoard}
@@ -62,7 +63,7 @@ tick-showing es = rw (length-map es tickEntry) (ap withRows (tick-rows es (rowCo
 -- names are counted upwards
 place-from : (a place : ℕ) (name : List ℕ) (names : List (List ℕ)) → placeFrom a name names ≡ some place → a ≤ place
 unfolding placeFrom
-place-from a place name [] e = let z : _≡_ {A = ℕ} 0 1 = cc in absurd (omega arith)
+place-from a place name [] e = impossible cc
 place-from a place name (other ∷ names) e = cases (sameBytes other name) (λ later. place-from (suc a) place name names later) e
   where
     cases : (t : Bool) → (placeFrom (suc a) name names ≡ some place → suc a ≤ place) → cond t (some a) (placeFrom (suc a) name names) ≡ some place → a ≤ place
@@ -77,7 +78,7 @@ module _ (byte : ℕ) (bytes : List ℕ) (value : ℤ) where
   -- no unused row has the name
   not-unused : (k a place : ℕ) → placeFrom a name (map rowName (rowsShowing [] k)) ≡ some place → ⊥
   unfolding placeFrom sameBytes
-  not-unused zero a place e = let z : _≡_ {A = ℕ} 0 1 = cc in absurd (omega arith)
+  not-unused zero a place e = impossible cc
   not-unused (suc k) a place e = not-unused k (suc a) place e
 
   abbrev Updates : List Entry → ℕ → ℕ → Type 0

@@ -9,6 +9,7 @@ use native.Mathlib.Omega.{arith}
 use lib.Dec.{ltb, leb·suc-suc}
 use lib.ListN.{length, replicate}
 use borrow.Author.Tests.{lt-ltb}
+use Rattle.slices.proofs.Impossible.{impossible}
 use Rattle.slices.specs.Same.{sameBytes}
 use Rattle.slices.proofs.SameLaws.{same-equal, same-refl}
 use Rattle.rows.specs.Names.{placeFrom, isSome, isIn, used}
@@ -94,7 +95,7 @@ unfolding placeFrom
 not-in name other names e = cases (sameBytes other name) refl e
   where
     cases : (t : Bool) → sameBytes other name ≡ t → isSome (cond t (some 0) (placeFrom 1 name names)) ≡ false → NotIn name other names
-    cases true h e = let z : _≡_ {A = ℕ} 0 1 = cc in absurd (omega arith)
+    cases true h e = impossible cc
     cases false h e = record { first = h; others = in-shift name names 0 1 ∙ e }
 
 -- nor does it become one of them when another name joins
@@ -120,5 +121,4 @@ differ a b h = cases (sameBytes b a) refl
         let same : b ≡ a = same-equal b a e in
         let never : sameBytes a a ≡ false = rw same at h in
         let always : sameBytes a a ≡ true = same-refl a in
-        let z : _≡_ {A = ℕ} 0 1 = cc in
-        absurd (omega arith)
+        impossible cc

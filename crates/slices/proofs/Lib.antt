@@ -1,4 +1,5 @@
 pub mod EachLaws
+pub mod Impossible
 pub mod Lent
 pub mod PartLaws
 pub mod PutLaws

@@ -3,11 +3,11 @@ use mathlib.Core.Path.{_≡_, refl, ap, ap₂}
 use mathlib.Core.Bool.{Bool, true, false, cond}
 use mathlib.Core.List.{List, [], _∷_}
 use Prim.Native.Nat.{ℕ, suc, _≤_, _<_}
-use native.Mathlib.Omega.{arith}
 use lib.Dec.{eqb}
 use lib.ListN.{length, drop, getD, drop-of-length-le}
 use lib.Seq.{drop-cons}
 use borrow.Author.Tests.{eqb-true, eq-eqb, ne-eqb}
+use Rattle.slices.proofs.Impossible.{impossible}
 use Rattle.slices.specs.Same.{sameBytes}
 
 never : (t u : Bool) → u ≡ false → cond t u false ≡ false
@@ -20,7 +20,7 @@ record Both (t u : Bool) : Type 0 where
 
 both : (t u : Bool) → cond t u false ≡ true → Both t u
 both true u h = record { first = refl; second = h }
-both false u h = let z : _≡_ {A = ℕ} 0 1 = cc in absurd (omega arith)
+both false u h = impossible cc
 
 -- lists of different lengths are not the same
 pub same-lengths : (a b : List ℕ) → (length a ≡ length b → ⊥) → sameBytes a b ≡ false
@@ -50,8 +50,8 @@ same-ended a b i ha hb = rw (drop-of-length-le a ha, drop-of-length-le b hb)
 pub same-equal : (a b : List ℕ) → sameBytes a b ≡ true → a ≡ b
 unfolding sameBytes
 same-equal [] [] h = refl
-same-equal [] (y ∷ ys) h = let z : _≡_ {A = ℕ} 0 1 = cc in absurd (omega arith)
-same-equal (x ∷ xs) [] h = let z : _≡_ {A = ℕ} 0 1 = cc in absurd (omega arith)
+same-equal [] (y ∷ ys) h = impossible cc
+same-equal (x ∷ xs) [] h = impossible cc
 same-equal (x ∷ xs) (y ∷ ys) h =
     let b : Both (eqb x y) (sameBytes xs ys) = both (eqb x y) (sameBytes xs ys) h in
     ap₂ (λ (p : ℕ) (q : List ℕ). p ∷ q) (eqb-true x y (b .first)) (same-equal xs ys (b .second))

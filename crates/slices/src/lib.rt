@@ -1,10 +1,18 @@
-// Bytes put into a lent buffer, byte slices compared, and two bytes read as a number.
+// Bytes put into a lent buffer, byte slices compared, two bytes read as a number, and what a writer
+// answers.
 ghost use mathlib.Core.Path.{_≡_};
 ghost use Prim.Native.Nat.{_-_, min};
 ghost use lib.ListN.{take};
-ghost use Rattle.slices.specs.Pair.{pairOf};
+ghost use Rattle.slices.specs.HighFirst.{pairOf};
 ghost use Rattle.slices.specs.Put.{putAt};
 ghost use Rattle.slices.specs.Same.{sameBytes};
+
+// What a writer answers: how many bytes it put at the start of the output, or the number of the
+// refusal.
+pub enum Written {
+    Length(usize),
+    Refused(u8),
+}
 
 // Puts `src` into `dst` from the place `at` on. All else in `dst` stays, and what would fall
 // past its end is dropped.

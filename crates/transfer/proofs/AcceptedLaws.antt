@@ -7,6 +7,7 @@ use native.Mathlib.Omega.{arith}
 use lib.Dec.{eqb, ltb}
 use lib.ListN.{length}
 use borrow.Author.Tests.{eqb-true, ltb-false, not-true}
+use Rattle.slices.proofs.Impossible.{impossible}
 use Rattle.slices.specs.Same.{sameBytes}
 use Rattle.slices.proofs.TestLaws.{both, neither}
 use Rattle.packet.specs.Items.{Item, valueIn}
@@ -47,10 +48,10 @@ module _ (offset next : ℕ) (declared : Declared) (last : Bool) where
   -- past a test that refuses where it fails, and past one that refuses where it holds
   kept : (t : Bool) (v : Verdict) (number : ℕ) → Accepts (cond t v (Refused number)) → Past t true v
   kept true v number e = record { test = refl; on = e }
-  kept false v number e = let z : _≡_ {A = ℕ} 0 1 = cc in absurd (omega arith)
+  kept false v number e = impossible cc
 
   passed : (t : Bool) (v : Verdict) (number : ℕ) → Accepts (cond t (Refused number) v) → Past t false v
-  passed true v number e = let z : _≡_ {A = ℕ} 0 1 = cc in absurd (omega arith)
+  passed true v number e = impossible cc
   passed false v number e = record { test = refl; on = e }
 
   module _ (transfer : Transfer) (room : ℕ) (items : List Item) where
@@ -78,7 +79,7 @@ module _ (offset next : ℕ) (declared : Declared) (last : Bool) where
 
     accepted-form : (form : Form) → Accepts (judgeForm transfer room items form) → AcceptedBy transfer room count offset next declared last
     unfolding judgeForm goesOn
-    accepted-form Bad e = let z : _≡_ {A = ℕ} 0 1 = cc in absurd (omega arith)
+    accepted-form Bad e = impossible cc
     accepted-form (Good at length-declared end) e =
         let ours = kept (sameBytes (valueIn locationKind items) (locationOf transfer)) _ 16 e in
         let going = kept (goesOn transfer at) _ 17 (ours .on) in
@@ -87,7 +88,7 @@ module _ (offset next : ℕ) (declared : Declared) (last : Bool) where
 
   pub accepted : (transfer : Transfer) (room : ℕ) (j : Judged) → verdictOf transfer room j ≡ Accepted offset next declared last → AcceptedBy transfer room (length (valueIn binaryKind (judgedItems j))) offset next declared last
   unfolding verdictOf judgedItems
-  accepted transfer room (refused number) e = let z : _≡_ {A = ℕ} 0 1 = cc in absurd (omega arith)
+  accepted transfer room (refused number) e = impossible cc
   accepted transfer room (packet p) e = accepted-form transfer room (p .items) (formOf (p .items)) (kept (eqb (p .opcode) fragmentOpcode) _ 11 e .on)
 
 -- a last fragment reaches the declared length exactly

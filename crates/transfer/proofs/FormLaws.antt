@@ -7,7 +7,7 @@ use native.Mathlib.Omega.{arith}
 use lib.Dec.{eqb}
 use lib.ListN.{length, getD}
 use borrow.Author.Tests.{eq-eqb, ne-eqb, lt-ltb, le-ltb, le-leb, lt-leb}
-use Rattle.slices.specs.Pair.{pairOf}
+use Rattle.slices.specs.HighFirst.{pairOf}
 use Rattle.packet.specs.Items.{Item, eofKind, countOf, valueIn}
 use Rattle.transfer.specs.Fragment.{binaryKind, offsetKind, lengthKind, locationKind, numberOf, rightItems, isLast, rightBinary, rightLocation, declaring, formAt, formOf}
 use Rattle.transfer.specs.declared.state.Declared.the-variants.{Unknown}

@@ -4,9 +4,9 @@ use mathlib.Core.Path.{_≡_, sym, _∙_}
 use mathlib.Core.Bool.{Bool, true, false}
 use mathlib.Core.List.{List}
 use Prim.Native.Nat.{ℕ, _+_, _≤_, _<_}
-use native.Mathlib.Omega.{arith}
 use lib.ListN.{length}
 use borrow.Author.Tests.{eq-eqb, ne-eqb, lt-ltb, le-ltb}
+use Rattle.slices.proofs.Impossible.{impossible}
 use Rattle.slices.specs.Put.{putAt}
 use Rattle.slices.specs.Same.{sameBytes}
 use Rattle.packet.specs.Items.{Item, valueIn}
@@ -50,7 +50,7 @@ module _ (transfer : Transfer) (room : ℕ) (items : List Item) (offset : ℕ) (
 module _ (transfer : Transfer) (room : ℕ) where
   pub verdict-refused : (j : Judged) (number : ℕ) → packet-answers.readingOf j ≡ packet-reading.Refused number → verdictOf transfer room j ≡ Refused number
   unfolding packet-answers.readingOf verdictOf
-  verdict-refused (packet p) number e = let z : _≡_ {A = ℕ} 0 1 = cc in absurd (omega arith)
+  verdict-refused (packet p) number e = impossible cc
   verdict-refused (refused found) number e = cc
 
   pub verdict-fragment : (j : Judged) (opcode id : ℕ) → packet-answers.readingOf j ≡ packet-reading.Packet opcode id → opcode ≡ fragmentOpcode → verdictOf transfer room j ≡ judgeForm transfer room (judgedItems j) (formOf (judgedItems j))
@@ -58,14 +58,14 @@ module _ (transfer : Transfer) (room : ℕ) where
   verdict-fragment (packet p) opcode id e is =
       let o : p .opcode ≡ opcode = cc in
       rw (eq-eqb (p .opcode) fragmentOpcode (o ∙ is))
-  verdict-fragment (refused found) opcode id e is = let z : _≡_ {A = ℕ} 0 1 = cc in absurd (omega arith)
+  verdict-fragment (refused found) opcode id e is = impossible cc
 
   pub verdict-other : (j : Judged) (opcode id : ℕ) → packet-answers.readingOf j ≡ packet-reading.Packet opcode id → (opcode ≡ fragmentOpcode → ⊥) → verdictOf transfer room j ≡ Refused 11
   unfolding packet-answers.readingOf verdictOf
   verdict-other (packet p) opcode id e isn't =
       let o : p .opcode ≡ opcode = cc in
       rw (ne-eqb (p .opcode) fragmentOpcode (λ same. isn't (sym o ∙ same)))
-  verdict-other (refused found) opcode id e isn't = let z : _≡_ {A = ℕ} 0 1 = cc in absurd (omega arith)
+  verdict-other (refused found) opcode id e isn't = impossible cc
 
 -- a refusal changes nothing; an accepted fragment is written at its offset
 module _ (transfer : Transfer) (bytes file : List ℕ) where

@@ -8,6 +8,7 @@ use Prim.Native.Nat.{ℕ, _+_, _≤_}
 use native.Mathlib.Omega.{arith}
 use lib.ListN.{length, take, drop, length-append}
 use Rattle.refusals.specs.Numbers.{badFragment}
+use Rattle.slices.proofs.Impossible.{impossible}
 use Rattle.slices.specs.Put.{putAt}
 use Rattle.slices.proofs.PutLaws.{put-append, put-first, put-beyond, length-put}
 use Rattle.packet.specs.Items.{valueIn}
@@ -93,7 +94,7 @@ start-holds location file = cases (validLocation location)
           laid = refl;
           counted = refl;
           fits = omega arith;
-          whole = λ total ended known. let z : _≡_ {A = ℕ} 0 1 = cc in absurd (omega arith);
+          whole = λ total ended known. impossible cc;
         }
 
     cases : (t : Bool) → Holds file (record { transfer = cond t (record { transfer = freshTransfer location; answer = answer.Accepted }) (refusedWith (freshTransfer []) badFragment) .transfer; file = file; joined = [] })

@@ -4,7 +4,7 @@ use mathlib.Core.Bool.{Bool, cond, _&&_, _||_}
 use mathlib.Core.List.{List, [], _∷_}
 use lib.Dec.{leb, ltb, eqb}
 use lib.ListN.{length}
-use Rattle.slices.specs.Pair.{pairOf}
+use Rattle.slices.specs.HighFirst.{pairOf}
 use Rattle.packet.specs.Items.{Item, eofKind, countOf, valueIn}
 use Rattle.packet.specs.Names.{validLocation}
 use Rattle.transfer.specs.declared.state.Declared.the-variants.{Unknown, Known}

@@ -10,6 +10,7 @@ use borrow.Author.Tests.{ltb-true}
 use mir.Syntax.{w64}
 use mir.Val.{Fits, SFits, toZ, ofZ}
 use mir.ValLaws.{toZ-pos, toZ-ofZ}
+use Rattle.slices.proofs.Impossible.{impossible}
 
 -- a negative number, by its complement
 pub record Negative (z : ℤ) : Type 0 where
@@ -39,5 +40,4 @@ not-negative (pos n) f e =
     record { sign = rw (toZ-ofZ w64 (pos n) f) tt; fits = rw (toZ-ofZ w64 (pos n) f) (record { fits = omega arith }) }
 not-negative (negsuc n) f e =
     let below = rw (toZ-ofZ w64 (negsuc n) f) at e in
-    let z : _≡_ {A = ℕ} 0 1 = cc in
-    absurd (omega arith)
+    impossible cc

@@ -16,6 +16,7 @@ use borrow.Author.Tests.{lt-ltb, le-ltb, eqb-true}
 use mir.Syntax.{w64}
 use mir.Val.{toZ}
 use mir.ValLaws.{toZ-pos, toZ-neg}
+use Rattle.slices.proofs.Impossible.{impossible}
 use Rattle.value.specs.declared.Value.the-variants.{Number, Bad}
 use Rattle.value.specs.Value.{asValue, wordFrom, wordOf, twos, leastNegative, numberOf, booleanOf}
 
@@ -116,8 +117,8 @@ boolean-byte (byte ∷ next ∷ bytes) h = absurd (omega arith)
 -- what the code's answer says of the value
 pub value-number : (o : Option ℤ) (number : ℤ) → asValue o ≡ Number number → o ≡ some number
 value-number (some found) number e = cc
-value-number none number e = let z : _≡_ {A = ℕ} 0 1 = cc in absurd (omega arith)
+value-number none number e = impossible cc
 
 pub value-bad : (o : Option ℤ) → asValue o ≡ Bad → o ≡ none
-value-bad (some found) e = let z : _≡_ {A = ℕ} 0 1 = cc in absurd (omega arith)
+value-bad (some found) e = impossible cc
 value-bad none e = refl

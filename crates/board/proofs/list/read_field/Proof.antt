@@ -5,7 +5,7 @@ use mathlib.Core.Path.{ap}
 use Prim.Native.Nat.{_≤_, _<_}
 use native.Mathlib.Omega.{arith}
 use lib.ListN.{length, drop, getD, length-drop}
-use Rattle.slices.specs.Pair.{pairOf}
+use Rattle.slices.specs.HighFirst.{pairOf}
 use Rattle.board.specs.declared.list.Field.the-variants.{Name}
 use Rattle.board.proofs.FieldLaws.{field-short, field-at}
 use Rattle.board.proofs.list.read_field.Statement.{statement}

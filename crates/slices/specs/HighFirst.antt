@@ -1,0 +1,16 @@
+-- Bytes as a number, high byte first, as 01 has it wherever a number takes more than one byte.
+use Prim.Native.Nat.{ℕ, _+_, _*_}
+use mathlib.Core.List.{List, [], _∷_}
+
+-- the bytes behind those that gave sum: each byte makes what stands before it 256 times as much
+abbrev pub wordFrom : ℕ → List ℕ → ℕ
+wordFrom sum [] = sum
+wordFrom sum (byte ∷ bytes) = wordFrom (sum * 256 + byte) bytes
+
+-- the bytes as one number without a sign
+abbrev pub wordOf : List ℕ → ℕ
+wordOf bytes = wordFrom 0 bytes
+
+-- two bytes, as 01 has them in the request id (Items and packets) and in a tagged field's length (The board)
+abbrev pub pairOf : ℕ → ℕ → ℕ
+pairOf high low = wordFrom high (low ∷ [])

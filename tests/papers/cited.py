@@ -124,11 +124,12 @@ def tokens_in(repository, page, text):
 
 def ids_in(text):
     seen = {}
-    for found in re.finditer(r"^\| (?!id |function )([^|]*) \|", text, re.M):
-        if not re.fullmatch(r"[A-Z][A-Za-z]*\d*\.\d+|`\w+(::\w+)+`", found[1]):
-            yield found.start(), f"a row without an id: {found[1]}"
-        elif seen.setdefault(found[1], found.start()) != found.start():
-            yield found.start(), f"the id {found[1]} is there twice"
+    for found in re.finditer(r"^\|(?! id | function |---)([^|]*)\|", text, re.M):
+        row = found[1].strip()
+        if not re.fullmatch(r"[A-Z][A-Za-z]*\d*\.\d+|`\w+(::\w+)+`", row):
+            yield found.start(), "a row without an id"
+        elif seen.setdefault(row, found.start()) != found.start():
+            yield found.start(), f"the id {row} is there twice"
 
 
 def check(root, papers):

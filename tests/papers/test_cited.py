@@ -1,0 +1,60 @@
+#!/usr/bin/env python3
+"""cited.py would fail: each kind of citation is damaged once in a copy of the papers, and has to be reported.
+
+The first citation of a kind on a page is changed, and a complaint about that very line has to come.
+"""
+import re
+import unittest
+
+from cited import ROOT, check, papers_of
+
+CLAIMS = "docs/CLAIMS.md"
+# what is damaged, where it is found first, what it becomes
+DAMAGES = [
+    ("a definition", CLAIMS, r"(\| \w+/[A-Z]\w+ `)([\w-]+)`", r"\1no-\2`"),
+    ("a definition behind a comma", CLAIMS, r"(\| \w+/[A-Z]\w+ `[\w-]+`, `)([\w-]+)`", r"\1no-\2`"),
+    ("a theorem", CLAIMS, r"(\w+/proofs/\w+ `)([\w-]+)`", r"\1no-\2`"),
+    ("a file of definitions", CLAIMS, r"(\| \w+/)([A-Z]\w+ `)", r"\1No\2"),
+    ("a theorem of another file", CLAIMS, r"ledger/proofs/EveryList (`every-list`)", r"ledger/proofs/Streams \1"),
+    ("a definition of another file", CLAIMS, r"frame/(?!Answers)[A-Z]\w+ (`)", r"frame/Answers \1"),
+    ("an edit", CLAIMS, r"(\| link `)(\w+)`", r"\1no_\2`"),
+    ("an edit of another crate", CLAIMS, r"\| link (`\w+`)", r"| value \1"),
+    ("a mutant", CLAIMS, r"(mutant of \w+ `)(\w+)`", r"\1no_\2`"),
+    ("code that was changed", CLAIMS, r"(` for `)(let [^`]+`)", r"\1no_\2"),
+    ("a function", CLAIMS, r"\| (\w+::\w+::)(\w+)", r"| \1no_\2"),
+    ("a run", CLAIMS, r"run (\w+)_cases", r"run no\1_cases"),
+    ("a path", CLAIMS, r"tests/c/(\w+)\.c", r"tests/c/no_\1.c"),
+    ("a history", CLAIMS, r"(examples/histories `)(\w+)`", r"\1no_\2`"),
+    ("an id that is there twice", CLAIMS, r"(?m)^\| D1\.2 ", "| D1.1 "),
+    ("a row without an id", CLAIMS, r"(?m)^\| D1\.2 ", "| "),
+    ("a name without a place", CLAIMS, r"A contract is stated once", "A `contract` is stated once"),
+    ("a make target", "README.md", r"`make (\w+)`", r"`make no\1`"),
+    ("a name of the header", "README.md", r"`arznavik_(\w+)`", r"`arznavik_no_\1`"),
+    ("an anchor", "README.md", r"\]\(#([\w-]+)\)", r"](#no-\1)"),
+    ("a link", "docs/TESTING.md", r"\]\((\w+\.md)\)", r"](NO\1)"),
+]
+
+
+class Cited(unittest.TestCase):
+    def setUp(self):
+        self.papers = papers_of(ROOT)
+
+    def test_papers_are_sound(self):
+        self.assertEqual(check(ROOT, self.papers), [])
+
+    def test_each_damage_is_reported(self):
+        before = check(ROOT, self.papers)
+        for what, page, found, becomes in DAMAGES:
+            with self.subTest(what):
+                text = self.papers[page]
+                place = re.search(found, text)
+                self.assertIsNotNone(place, f"{page} has nothing of this kind")
+                damaged = text[:place.start()] + re.sub(found, becomes, place[0], count=1) + text[place.end():]
+                self.assertNotEqual(damaged, text)
+                line = f"{page}:{1 + text[:place.start()].count(chr(10))}:"
+                complaints = [c for c in check(ROOT, {**self.papers, page: damaged}) if c not in before]
+                self.assertTrue(any(c.startswith(line) for c in complaints), f"not reported: {complaints}")
+
+
+if __name__ == "__main__":
+    unittest.main()

@@ -40,8 +40,9 @@ def place_of(repository, before):
     """What the text right before a name cites, as a test of names; None if it cites no place."""
     if found := re.search(r"\b(?:code|mutants?) of (\w+)\s+$", before):
         return lambda name: found[1] in repository.crates and repository.has_in_code(found[1], name)
-    if found := re.search(r"([\w/.+-]+/[\w.+-]*)`?[,:]?\s+$", before):
-        if path := repository.proved(found[1]) or repository.path(found[1]):
+    if found := re.search(r"([\w/.+-]+/[\w.+-]*)`?([,:]?)\s+$", before):
+        path = repository.proved(found[1]) or repository.path(found[1])
+        if path and not (path.is_dir() and found[2]):
             return lambda name: name in names_of(path)
     if found := re.search(r"(?<![\w/`:.-])(\w+)\s+$", before):
         if found[1] in repository.crates:

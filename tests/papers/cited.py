@@ -133,20 +133,17 @@ def ids_in(text):
             yield found.start(), f"the id {row} is there twice"
 
 
-def check(root, papers):
-    """Every complaint about the papers, which are a dictionary from paths to texts."""
-    repository = Repository(root)
-    complaints = []
-    for page, text in papers.items():
-        prose = re.sub(r"^```.*?^```$", lambda found: "\n" * found[0].count("\n"), text, flags=re.M | re.S)
-        found = [*links_in(root, page, papers), *tokens_in(repository, page, text)]
-        found += ids_in(text) if page == "docs/CLAIMS.md" else []
-        complaints += [f"{page}:{1 + text[:at].count(chr(10))}: {complaint}" for at, complaint in found]
-        for first, block in blocks(prose):
-            if not block.startswith("    "):
-                complaints += [f"{page}:{first + block[:at].count(chr(10))}: {complaint}"
-                               for at, complaint in names_in(repository, block)]
-    return complaints
+def check(repository, page, papers):
+    """Every complaint about one of the papers, which are a dictionary from paths to texts."""
+    text = papers[page]
+    found = [*links_in(repository.root, page, papers), *tokens_in(repository, page, text)]
+    found += ids_in(text) if page == "docs/CLAIMS.md" else []
+    places = [(1 + text[:at].count("\n"), complaint) for at, complaint in found]
+    prose = re.sub(r"^```.*?^```$", lambda found: "\n" * found[0].count("\n"), text, flags=re.M | re.S)
+    for first, block in blocks(prose):
+        if not block.startswith("    "):
+            places += [(first + block[:at].count("\n"), c) for at, c in names_in(repository, block)]
+    return [f"{page}:{line}: {complaint}" for line, complaint in sorted(places)]
 
 
 def papers_of(root):
@@ -155,8 +152,8 @@ def papers_of(root):
 
 
 def main():
-    papers = papers_of(ROOT)
-    complaints = check(ROOT, papers)
+    repository, papers = Repository(ROOT), papers_of(ROOT)
+    complaints = [complaint for page in papers for complaint in check(repository, page, papers)]
     print("\n".join(complaints) or f"papers: all that {len(papers)} pages cite is there")
     return 1 if complaints else 0
 

@@ -33,6 +33,7 @@ class Repository:
         self.sources = {crate: sorted((root / "crates" / crate / "src").glob("*.rt")) for crate in self.crates}
         self.all_code = ["".join(path.read_text().split()) for paths in self.sources.values() for path in paths]
 
+    @cache
     def proved(self, place):
         """The file that crate/File or crate/proofs/File means, or None."""
         crate, _, rest = place.removeprefix("crates/").removesuffix(".antt").partition("/")
@@ -43,11 +44,13 @@ class Repository:
         """Where a path may start: the root, crates/, docs/ or the page's own folder."""
         return (self.root, self.root / "crates", self.root / "docs", (self.root / page).parent)
 
+    @cache
     def path(self, place):
         """The file or folder that a path means, or None."""
         found = [base / place for base in self.bases() if (base / place).exists()]
         return found[0] if found else None
 
+    @cache
     def has_path(self, token, page):
         """A path, stars allowed; or the name of a file anywhere. What is built under target/ is not looked up."""
         token = token.rstrip("/.")
@@ -70,6 +73,7 @@ class Repository:
         crate, *modules, name = path.split("::")
         return crate in self.crates and self.has_in_code(crate, name, modules[-1] if modules else None)
 
+    @cache
     def has_code(self, line):
         """Some code that stands in a source file, however it is broken into lines."""
         return any("".join(line.split()) in code for code in self.all_code)

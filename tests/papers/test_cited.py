@@ -7,6 +7,7 @@ import re
 import unittest
 
 from cited import ROOT, check, papers_of
+from repository import Repository
 
 CLAIMS = "docs/CLAIMS.md"
 # what is damaged, where it is found first, what it becomes
@@ -36,24 +37,18 @@ DAMAGES = [
 
 
 class Cited(unittest.TestCase):
-    def setUp(self):
-        self.papers = papers_of(ROOT)
-
-    def test_papers_are_sound(self):
-        self.assertEqual(check(ROOT, self.papers), [])
-
     def test_each_damage_is_reported(self):
-        before = check(ROOT, self.papers)
+        repository, papers = Repository(ROOT), papers_of(ROOT)
+        before = {page: check(repository, page, papers) for page in papers}
         for what, page, found, becomes in DAMAGES:
             with self.subTest(what):
-                text = self.papers[page]
+                text = papers[page]
                 place = re.search(found, text)
                 self.assertIsNotNone(place, f"{page} has nothing of this kind")
                 damaged = text[:place.start()] + re.sub(found, becomes, place[0], count=1) + text[place.end():]
-                self.assertNotEqual(damaged, text)
+                after = check(repository, page, {**papers, page: damaged})
                 line = f"{page}:{1 + text[:place.start()].count(chr(10))}:"
-                complaints = [c for c in check(ROOT, {**self.papers, page: damaged}) if c not in before]
-                self.assertTrue(any(c.startswith(line) for c in complaints), f"not reported: {complaints}")
+                self.assertTrue(any(c.startswith(line) for c in after if c not in before[page]), "not reported")
 
 
 if __name__ == "__main__":

@@ -124,6 +124,7 @@ def tokens_in(repository, page, text):
 
 
 def ids_in(text):
+    """Each row has an id of its own, and rows refer to ids that are there."""
     seen = {}
     for found in re.finditer(r"^\|(?! id | function |---)([^|]*)\|", text, re.M):
         row = found[1].strip()
@@ -131,6 +132,9 @@ def ids_in(text):
             yield found.start(), "a row without an id"
         elif seen.setdefault(row, found.start()) != found.start():
             yield found.start(), f"the id {row} is there twice"
+    for found in re.finditer(r"(?<![\w.])[A-Z][A-Za-z]*\d*\.\d+\b", text):
+        if found[0] not in seen:
+            yield found.start(), f"there is no row {found[0]}"
 
 
 def check(repository, page, papers):

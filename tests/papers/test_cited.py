@@ -27,6 +27,7 @@ DAMAGES = [
     ("a path", CLAIMS, r"tests/c/(\w+)\.c", r"tests/c/no_\1.c"),
     ("a history", CLAIMS, r"(examples/histories `)(\w+)`", r"\1no_\2`"),
     ("an id that is there twice", CLAIMS, r"(?m)^\| D1\.2 ", "| D1.1 "),
+    ("a row that another refers to", CLAIMS, r"the rows F\.1 to F\.(\d+)", r"the rows F.1 to F.9\1"),
     ("a row without an id", CLAIMS, r"(?m)^\| D1\.2 ", "| "),
     ("a name without a place", CLAIMS, r"A contract is stated once", "A `contract` is stated once"),
     ("a make target", "README.md", r"`make (\w+)`", r"`make no\1`"),

@@ -111,23 +111,25 @@ $(OUT)/line: tests/c/line.c examples/firmware/line.c $(HEADERS) $(OUT)/expect.o
 $(OUT)/serial: tests/c/serial.c $(HEADERS) $(OUT)/expect.o
 	$(CC) $(CFLAGS) -o $@ $(INPUTS)
 
+# What several of the Rust tests are built of; a change in one builds them all again.
+RUST_SHARED := $(wildcard tests/shared/*.rs tests/reference/*.rs)
+
 $(OUT)/reference: tests/reference/frame.rs | $(OUT)
 	$(call rust,--test)
 
-$(OUT)/differential: tests/differential/main.rs $(wildcard tests/differential/*.rs) \
-		tests/reference/frame.rs $(ARCHIVE) | $(OUT)
+$(OUT)/differential: tests/differential/main.rs $(wildcard tests/differential/*.rs) $(RUST_SHARED) \
+		$(ARCHIVE) | $(OUT)
 	$(call rust,-C link-arg=$(ARCHIVE))
 
-$(OUT)/replay_test: tests/replay/main.rs $(wildcard tests/replay/*.rs tests/reference/*.rs) \
-		tests/differential/random.rs | $(OUT)
+REPLAY_TEST := tests/replay/main.rs $(wildcard tests/replay/*.rs) $(RUST_SHARED)
+
+$(OUT)/replay_test: $(REPLAY_TEST) | $(OUT)
 	$(call rust)
 
-$(OUT)/replay_reference: tests/replay/main.rs $(wildcard tests/replay/*.rs tests/reference/*.rs) \
-		tests/differential/random.rs | $(OUT)
+$(OUT)/replay_reference: $(REPLAY_TEST) | $(OUT)
 	$(call rust,--test)
 
-ASH_TEST := tests/ash/main.rs $(wildcard tests/ash/*.rs) $(addprefix tests/,reference/ash.rs \
-	reference/frame.rs replay/child.rs $(addprefix differential/,random.rs seeds.rs tally.rs))
+ASH_TEST := tests/ash/main.rs $(wildcard tests/ash/*.rs) $(RUST_SHARED)
 
 $(OUT)/ash_test: $(ASH_TEST) | $(OUT)
 	$(call rust)
@@ -138,11 +140,14 @@ $(OUT)/ash_reference: $(ASH_TEST) crates/ash_cases/stdin crates/ash_cases/stdout
 CAPTURE := examples/captures/line
 CASE_6 := examples/histories/case_6
 
-## make test             run the host tests, and replay the histories of examples/ (rustc)
+## make test             run the host tests, and replay the histories of examples/ (rustc, python3)
 test: $(addprefix $(OUT)/,$(TESTS)) $(OUT)/display $(REPLAY) $(ASH)
 	@set -e; for test in $(C_TESTS); do $(OUT)/$$test; done
 	@tests/example/run.sh $(OUT)/display $(CAPTURE).capture $(CAPTURE).expected
 	@$(OUT)/serial $(OUT)/display
+	@rm -rf $(OUT)/histories
+	@tests/histories/cases.py $(OUT)/histories
+	@diff -r -x '*.txt' $(OUT)/histories examples/histories
 	@tests/histories/run.sh $(REPLAY) examples/histories
 	@$(OUT)/reference --quiet
 	@$(OUT)/differential
@@ -192,8 +197,8 @@ $(FUZZ)/archive: tests/fuzz/archive.c examples/firmware/collector.c $(PLAIN) $(H
 		$(addprefix $(FUZZ)/,coverage.o archive.s archive.o)
 	$(CLANG) $(FUZZ_CFLAGS) $(SANITIZERS) -o $@ $(INPUTS)
 
-$(FUZZ)/libreplay.a: tests/fuzz/replay.rs $(wildcard tests/fuzz/*.rs tests/reference/*.rs) \
-		tests/replay/histories.rs tests/differential/random.rs | $(FUZZ)
+$(FUZZ)/libreplay.a: tests/fuzz/replay.rs $(wildcard tests/fuzz/*.rs) tests/replay/histories.rs \
+		$(RUST_SHARED) | $(FUZZ)
 	$(call rust,$(FUZZ_COUNTERS))
 
 $(FUZZ)/replay: $(addprefix $(FUZZ)/,coverage.o replay.s replay.o libreplay.a)
@@ -214,7 +219,7 @@ valgrind: $(addprefix $(OUT)/,$(C_TESTS) serial differential replay_test display
 
 # Mutants: small wrong programs, each to be refused
 
-CRATES ?= slices crc value rows board display host link frame packet transfer history refusals ash ledger
+CRATES ?= slices crc value rows board display host link frame packet transfer history refusals ash
 
 ## make mutants          try small wrong programs against the prover; hours for all crates, of some:
 ##                       make mutants CRATES="crc value" (python3)

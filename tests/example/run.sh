@@ -8,32 +8,18 @@ set -euo pipefail
 program=$1
 capture=$2
 expected=$3
+test=example
 work=$(mktemp -d)
 trap 'rm -rf "$work"' EXIT
+. tests/shared/expect.sh
 printed=$work/printed
-said=$work/said
-limit=10
 
-# Status 124 is the limit's: the program had not ended.
+# Status 124 is that of `timeout`: the program did not end.
 run() {
-    timeout "$limit" "$program" "$@"
+    timeout 10 "$program" "$@"
 }
 
-fail() {
-    echo "example: $*" >&2
-    exit 1
-}
-
-# The last words run the example; it must fail by itself, and say this.
-expect_failure() {
-    local words=$1 status=0
-    shift
-    "$@" 2>"$said" || status=$?
-    [ "$status" -eq 1 ] || fail "$words: ended with $status"
-    grep -q "$words" "$said" || fail "$words: said $(cat "$said")"
-}
-
-# The words behind the name run the example; it must end well and print the expected lines.
+# expect_lines WHAT COMMAND...: the command ends well and prints the expected lines.
 expect_lines() {
     local what=$1 status=0
     shift
@@ -47,8 +33,9 @@ expect_lines "from standard input" run <"$capture"
 cat "$capture" | expect_lines "from a pipe" run
 expect_lines "from a pipe named as the argument" run <(cat "$capture")
 
-# A FIFO: the example ends when its writer does.
+# A FIFO ends when its writer does.
 mkfifo "$work/fifo"
+: >"$printed"
 exec 3<>"$work/fifo"
 expect_lines "from a FIFO" run "$work/fifo" 3>&- &
 example=$!
@@ -60,19 +47,14 @@ done
 exec 3>&-
 wait "$example"
 
-nobody_writes() { run "$work/fifo"; }
-empty_input() { run </dev/null; }
-full_file() { run "$capture" >/dev/full; }
-full_input() { run <"$capture" >/dev/full; }
-closed_output() { run "$capture" >&-; }
-missing_file() { run "$work/missing"; }
-folder() { run "$work"; }
-expect_failure "fifo: not one byte came" nobody_writes
-expect_failure "standard input: not one byte came" empty_input
-expect_failure "standard output: No space left on device" full_file
-expect_failure "standard output: No space left on device" full_input
-expect_failure "standard output: Bad file descriptor" closed_output
-expect_failure "missing: No such file or directory" missing_file
-expect_failure "$work: Is a directory" folder
+expect_failure 1 "fifo: not one byte came" run "$work/fifo"
+expect_failure 1 "standard input: not one byte came" run </dev/null
+expect_failure 1 "standard output: No space left on device" run "$capture" >/dev/full
+expect_failure 1 "standard output: No space left on device" run <"$capture" >/dev/full
+expect_failure 1 "standard output: Bad file descriptor" run "$capture" >&-
+expect_failure 1 "missing: No such file or directory" run "$work/missing"
+expect_failure 1 "$work: Is a directory" run "$work"
+expect_failure 2 "usage" run "$capture" "$capture"
+expect_failure 2 "parenb parodd" run --help
 
-echo "example: the capture gives its expected lines, from a file, standard input and pipes; 7 failures are told"
+echo "example: the capture gives its expected lines, from a file, standard input and pipes, and failures are told"

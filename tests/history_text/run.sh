@@ -7,22 +7,10 @@ set -euo pipefail
 program=$1
 history=$2
 text=$3
+test=history_text
 work=$(mktemp -d)
 trap 'rm -rf "$work"' EXIT
-
-fail() {
-    echo "history_text: $*" >&2
-    exit 1
-}
-
-# The words behind the input are the tool's; it must end with this status and say this.
-expect_failure() {
-    local status=0 wanted=$1 words=$2 input=$3 output=$4
-    shift 4
-    "$program" "$@" <"$input" >"$output" 2>"$work/said" || status=$?
-    [ "$status" -eq "$wanted" ] || fail "$words: ended with $status"
-    grep -q "$words" "$work/said" || fail "$words: said $(cat "$work/said")"
-}
+. tests/shared/expect.sh
 
 "$program" read <"$history" >"$work/text"
 diff -u "$text" "$work/text"
@@ -30,13 +18,13 @@ diff -u "$text" "$work/text"
 cmp "$history" "$work/history"
 
 # A history has no line end, so that standard output keeps it back until it is flushed.
-expect_failure 1 "No space left on device" "$history" /dev/full read
-expect_failure 1 "No space left on device" "$text" /dev/full write
+expect_failure 1 "No space left on device" "$program" read <"$history" >/dev/full
+expect_failure 1 "No space left on device" "$program" write <"$text" >/dev/full
+expect_failure 1 "Is a directory" "$program" read <"$work"
 printf 'bytes 7' >"$work/wrong"
-expect_failure 1 "line 1: bytes are pairs" "$work/wrong" "$work/none" write
-expect_failure 1 "the field at byte 0 is broken" "$work/wrong" "$work/none" read
-expect_failure 1 "Is a directory" "$work" "$work/none" read
-expect_failure 2 "usage" /dev/null "$work/none"
-expect_failure 2 "usage" /dev/null "$work/none" sideways
+expect_failure 1 "line 1: bytes are pairs" "$program" write <"$work/wrong"
+expect_failure 1 "the field at byte 0 is broken" "$program" read <"$work/wrong"
+expect_failure 2 "usage" "$program" </dev/null
+expect_failure 2 "usage" "$program" sideways </dev/null
 
-echo "history_text: the stored pair in both directions, 7 failures are told"
+echo "history_text: the stored pair in both directions, and its failures are told"

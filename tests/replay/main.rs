@@ -3,6 +3,7 @@
 //!
 //! Arguments: the program, how many histories, the seed.
 
+#[path = "../shared/child.rs"]
 mod child;
 #[path = "../reference/frame.rs"]
 #[allow(dead_code)]
@@ -10,7 +11,7 @@ mod frame;
 mod histories;
 #[path = "../reference/program.rs"]
 mod program;
-#[path = "../differential/random.rs"]
+#[path = "../shared/random.rs"]
 mod random;
 mod sights;
 

@@ -39,7 +39,7 @@ $(call need,$(RUSTC),the Rust compiler (1.80 or later): install it or set RUSTC)
 $(RUSTC) $(RUSTFLAGS) $(1) -o $@ $<
 endef
 
-.PHONY: all help run example history_text test soak mutants emptied fuzz fuzz-packages \
+.PHONY: all help run example history_text test soak mutants written-edits emptied fuzz fuzz-packages \
 	valgrind bench bench-receive measure clean
 .DELETE_ON_ERROR:
 
@@ -157,6 +157,8 @@ test: $(addprefix $(OUT)/,$(TESTS)) $(OUT)/display $(REPLAY) $(ASH)
 	@$(OUT)/replay_test $(REPLAY) 20000 1
 	@$(OUT)/ash_reference --quiet
 	@$(OUT)/ash_test $(ASH)
+	@tests/mutants/written.py --apply-only
+	@tests/mutants/table.py --check
 
 ## make soak             compare `replay` with the reference on a million histories (rustc)
 soak: $(OUT)/replay_test $(REPLAY)
@@ -219,15 +221,19 @@ valgrind: $(addprefix $(OUT)/,$(C_TESTS) serial differential replay_test display
 
 # Mutants: small wrong programs, each to be refused
 
-CRATES ?= slices crc value rows board display host link frame packet transfer history refusals ash
+CRATES ?= slices crc value rows board display host link frame packet transfer history refusals ash ledger
 
 ## make mutants          try small wrong programs against the prover; hours for all crates, of some:
 ##                       make mutants CRATES="crc value" (python3)
-mutants:
+mutants: written-edits
+	tests/mutants/run.py $(OUT)/mutants $(CRATES)
+
+## make written-edits    try the written ones of them alone; CRATES as above (python3)
+written-edits:
 	$(need_rt)
 	rt check $(CRATES)
 	mkdir -p $(OUT)
-	tests/mutants/run.py $(OUT)/mutants $(CRATES)
+	tests/mutants/written.py $(OUT)/written $(CRATES)
 
 ## make emptied          empty the contract of each public function, and say what breaks; CRATES as
 ##                       above (python3)

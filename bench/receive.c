@@ -203,5 +203,5 @@ int main(int argc, char **argv)
     for (size_t i = 0; i < sizeof streams / sizeof streams[0]; i++)
         for (size_t j = 0; j < sizeof sizes / sizeof sizes[0]; j++)
             print_row(programs, sizes[j], &streams[i]);
-    return EXIT_SUCCESS;
+    return fclose(stdout) == 0 ? EXIT_SUCCESS : EXIT_FAILURE;
 }

@@ -10,6 +10,7 @@
 
 #include "expect.h"
 
+#include <errno.h>
 #include <fcntl.h>
 #include <poll.h>
 #include <stdio.h>
@@ -126,8 +127,10 @@ int main(int argc, char **argv)
     if (argc != 2 || pipe(output) != 0)
         return 2;
     if (open_terminal(&terminal) != 0) {
-        printf("serial: not run, this system has no pseudo-terminals\n");
-        return EXIT_SUCCESS;
+        /* A system that has none is passed over. */
+        int result = errno == ENOENT ? EXIT_SUCCESS : EXIT_FAILURE;
+        perror("serial: not run, no pseudo-terminal");
+        return result;
     }
     alarm(PATIENCE_S);
     if (set_device(terminal.device, &kept) != 0)

@@ -56,10 +56,8 @@ def apply_only(crates: list[str]) -> list[str]:
         except BadEdit as why:
             print(f"{edit}: {why}", file=sys.stderr)
             failed.append(label_of(edit))
-    if not count:
-        failed.append("no edit found")
-    print(f"written edits: {count} fit the sources, {len(failed)} failed", flush=True)
-    return failed
+    print(f"written edits: {count - len(failed)} fit the sources, {len(failed)} do not", flush=True)
+    return failed if count else ["no edit found"]
 
 
 def try_all(out: Path, crates: list[str]) -> list[str]:

@@ -31,7 +31,7 @@ RECEIVER ?= target/bin/receive_bench
 INPUTS = $(filter-out %.h,$^)
 
 # $(call need,PROGRAM,WHAT IT IS) ends a rule with a clear word where a program is missing.
-need = @command -v $(1) >/dev/null || { echo "make: $@ needs $(1), $(2)" >&2; exit 1; }
+need = @command -v $(firstword $(1)) >/dev/null || { echo "make: $@ needs $(1), $(2)" >&2; exit 1; }
 need_rt = $(call need,rt,the Rattle toolchain: put it on the PATH)
 # $(call rust,OPTIONS) compiles the first prerequisite.
 define rust
@@ -142,6 +142,7 @@ CASE_6 := examples/histories/case_6
 
 ## make test             run the host tests, and replay the histories of examples/ (rustc, python3)
 test: $(addprefix $(OUT)/,$(TESTS)) $(OUT)/display $(REPLAY) $(ASH)
+	$(call need,python3,Python (3.10 or later))
 	@set -e; for test in $(C_TESTS); do $(OUT)/$$test; done
 	@tests/example/run.sh $(OUT)/display $(CAPTURE).capture $(CAPTURE).expected
 	@$(OUT)/serial $(OUT)/display

@@ -40,7 +40,7 @@ extern "C" {
 #define ARZNAVIK_CONTENT_MAX 387
 /* Two flags, and between them the longest content with each of its bytes escaped. */
 #define ARZNAVIK_FRAME_MAX 776
-/* Room for any acknowledgement: two flags, the type, and its sequence and two check bytes escaped. */
+/* Room for any acknowledgement: two flags, its type, and sequence and both check bytes escaped. */
 #define ARZNAVIK_ACKNOWLEDGEMENT_MAX 9
 
 #define ARZNAVIK_FLAG 0x7e

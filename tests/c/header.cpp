@@ -1,4 +1,4 @@
-// The header as C++: its names, its accessors on a report with every field set, and calls with NULL.
+// The header as C++: its names, its accessors on a report with every field set, calls with NULL.
 #include "arznavik.h"
 
 extern "C" {
@@ -41,8 +41,8 @@ static void null_slices()
     expect_bytes("NULL payload", output, acknowledgement, sizeof acknowledgement);
     expect_number("NULL frame", arznavik_check_frame(nullptr, 0, output, sizeof output),
                   ARZNAVIK_BAD_FRAMING);
-    expect_number("NULL output of the writer", arznavik_write_frame(TYPE, 1, nullptr, 0, nullptr, 0),
-                  ARZNAVIK_SHORT_OUTPUT);
+    expect_number("NULL output of the writer",
+                  arznavik_write_frame(TYPE, 1, nullptr, 0, nullptr, 0), ARZNAVIK_SHORT_OUTPUT);
     expect_number("NULL output of the check", arznavik_check_frame(output, 6, nullptr, 0),
                   ARZNAVIK_SHORT_OUTPUT);
     expect_bytes("output stays", output, acknowledgement, sizeof acknowledgement);

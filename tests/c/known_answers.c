@@ -21,7 +21,10 @@ static void frames(void)
         const uint8_t *frame;
         size_t length;
     } answers[] = {
-        {"known answer 1", {ACKNOWLEDGEMENT, 0x01, payload, sizeof payload}, answer_1, sizeof answer_1},
+        {"known answer 1",
+         {ACKNOWLEDGEMENT, 0x01, payload, sizeof payload},
+         answer_1,
+         sizeof answer_1},
         {"known answer 2", {ACKNOWLEDGEMENT, 0x01, NULL, 0}, answer_2, sizeof answer_2},
         {"known answer 3", {ACKNOWLEDGEMENT, 0x00, NULL, 0}, answer_3, sizeof answer_3},
         {"known answer 4", {ACKNOWLEDGEMENT, 0x7d, NULL, 0}, answer_4, sizeof answer_4},

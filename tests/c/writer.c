@@ -70,14 +70,14 @@ static void exact_room(void)
                            ARZNAVIK_SHORT_OUTPUT);
 }
 
-/* The room that the header names is enough for each sequence; some take 7 bytes, none takes more. */
+/* The room that the header names is enough for each sequence; the longest take 7 bytes. */
 static void acknowledgement_room(void)
 {
     uint8_t reply[ARZNAVIK_ACKNOWLEDGEMENT_MAX];
     size_t longest = 0;
     for (unsigned sequence = 0; sequence < 256; sequence++) {
-        uint64_t report = arznavik_write_frame(ARZNAVIK_TYPE_ACKNOWLEDGEMENT, (uint8_t)sequence, NULL,
-                                               0, reply, sizeof reply);
+        uint64_t report = arznavik_write_frame(ARZNAVIK_TYPE_ACKNOWLEDGEMENT, (uint8_t)sequence,
+                                               NULL, 0, reply, sizeof reply);
         expect_number("an acknowledgement has room", arznavik_refusal(report), ARZNAVIK_TAKEN);
         if (longest < arznavik_length(report))
             longest = arznavik_length(report);

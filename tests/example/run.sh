@@ -11,7 +11,7 @@ expected=$3
 test=example
 work=$(mktemp -d)
 trap 'rm -rf "$work"' EXIT
-. tests/shared/expect.sh
+. "$(dirname "${BASH_SOURCE[0]}")/../shared/expect.sh"
 printed=$work/printed
 
 # Status 124 is that of `timeout`: the program did not end.

@@ -10,7 +10,7 @@ text=$3
 test=history_text
 work=$(mktemp -d)
 trap 'rm -rf "$work"' EXIT
-. tests/shared/expect.sh
+. "$(dirname "${BASH_SOURCE[0]}")/../shared/expect.sh"
 
 "$program" read <"$history" >"$work/text"
 diff -u "$text" "$work/text"

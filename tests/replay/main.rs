@@ -31,6 +31,10 @@ fn main() -> ExitCode {
         eprintln!("COUNT and SEED are numbers");
         return ExitCode::from(2);
     };
+    if count == 0 {
+        eprintln!("no history, no test");
+        return ExitCode::from(2);
+    }
     let workers = thread::available_parallelism().map_or(1, |n| n.get() as u64);
     let runs: Vec<_> = (0..workers)
         .map(|worker| {

@@ -1,21 +1,6 @@
-# The C and Rust side of Arznavik: the example, the host tests and the benchmark, over the static
-# library that `rt staticlib host` proves and builds.
-#
-#   make                build the library and the example
-#   make run            build `replay` and show the board of a bundled history
-#   make example        run the example firmware loop on the bundled capture
-#   make test           run the host tests, and replay the histories of examples/
-#   make history_text   build the tool between histories and readable texts, target/out/history_text
-#   make soak           compare `replay` with the reference on a million histories
-#   make fuzz           fuzz the library and `replay`, each for FUZZ_SECONDS (60)
-#   make valgrind       run the host tests under valgrind, in about three minutes
-#   make mutants        try mutants of the code against the prover; of all crates it takes hours,
-#                       of some: make mutants CRATES="crc value"
-#   make emptied        empty the contract of each public function, and say what breaks; CRATES as above
-#   make bench          measure speed, stack and code size
-#   make bench-receive  measure the speed of the receiver alone
-#   make measure        measure stack and code size alone
-#   make clean          remove what this file built, the library apart
+# The C and Rust side of Arznavik: the example, the host tests and the measurements, over the static
+# library that `rt staticlib host` proves and builds. `make help` lists the commands; it prints the
+# lines of this file that begin with ##.
 
 ARCHIVE ?= target/staticlib/libhost.a
 REPLAY ?= target/bin/replay
@@ -35,7 +20,7 @@ RUSTFLAGS := --edition 2021 -C opt-level=2 -D warnings
 BENCH_CFLAGS := -std=c99 -O3 $(WARNINGS) -Iinclude
 
 HEADERS := $(wildcard include/*.h $(addsuffix /*.h,tests/c tests/fuzz bench examples/firmware))
-C_TESTS := known_answers writer reader header collector
+C_TESTS := known_answers writer reader header collector line
 TESTS := $(C_TESTS) serial reference differential replay_reference replay_test \
 	history_text history_text_test ash_reference ash_test
 PLAIN := bench/plain_frame.c bench/plain_crc.c
@@ -45,19 +30,35 @@ RECEIVER ?= target/bin/receive_bench
 # What a rule compiles and links: its prerequisites without the headers.
 INPUTS = $(filter-out %.h,$^)
 
-.PHONY: all run example history_text test soak mutants emptied fuzz fuzz-packages valgrind bench bench-receive \
-	measure clean
+# $(call need,PROGRAM,WHAT IT IS) ends a rule with a clear word where a program is missing.
+need = @command -v $(firstword $(1)) >/dev/null || { echo "make: $@ needs $(1), $(2)" >&2; exit 1; }
+need_rt = $(call need,rt,the Rattle toolchain: put it on the PATH)
+# $(call rust,OPTIONS) compiles the first prerequisite.
+define rust
+$(call need,$(RUSTC),the Rust compiler (1.80 or later): install it or set RUSTC)
+$(RUSTC) $(RUSTFLAGS) $(1) -o $@ $<
+endef
+
+.PHONY: all help run example history_text test soak mutants written-edits emptied fuzz fuzz-packages \
+	valgrind bench bench-receive measure clean
 .DELETE_ON_ERROR:
 
+## make                  build the library and the example
 all: $(ARCHIVE) $(OUT)/display
+
+## make help             print this list
+help:
+	@sed -n 's/^## \{0,1\}//p' $(firstword $(MAKEFILE_LIST))
 
 # rt proves again only what has changed.
 target/staticlib/libhost.a: crates.txt $(shell find crates -type f)
+	$(need_rt)
 	rt staticlib host
 	touch $@
 
 $(addprefix target/bin/,replay ash_cases receive_bench): target/bin/%: \
 		crates.txt $(shell find crates -type f)
+	$(need_rt)
 	rt check $*
 	touch $@
 
@@ -69,23 +70,26 @@ $(OUT):
 $(OUT)/display: $(addprefix examples/firmware/,main.c collector.c line.c) $(HEADERS) $(ARCHIVE) | $(OUT)
 	$(CC) $(CFLAGS) -o $@ $(INPUTS)
 
+## make run              show the board of a bundled history, by the program `replay`
 run: $(REPLAY)
 	$(REPLAY) <examples/histories/case_6.history
 
+## make example          run the example firmware loop on the bundled capture
 example: $(OUT)/display
 	$(OUT)/display examples/captures/line.capture
 
 # The tool between histories and readable texts
 
+## make history_text     build target/out/history_text, between histories and texts (rustc)
 history_text: $(OUT)/history_text
 
 $(OUT)/history_text: tools/history_text/main.rs tools/history_text/text.rs | $(OUT)
-	$(RUSTC) $(RUSTFLAGS) -o $@ $<
+	$(call rust)
 
 # The tests
 
 $(OUT)/history_text_test: tools/history_text/main.rs tools/history_text/text.rs | $(OUT)
-	$(RUSTC) $(RUSTFLAGS) --test -o $@ $<
+	$(call rust,--test)
 
 $(OUT)/expect.o $(OUT)/calls.o: $(OUT)/%.o: tests/c/%.c $(HEADERS) | $(OUT)
 	$(CC) $(CFLAGS) -c -o $@ $<
@@ -101,52 +105,63 @@ $(OUT)/collector: tests/c/collector.c examples/firmware/collector.c $(HEADERS) $
 		$(ARCHIVE)
 	$(CC) $(CFLAGS) -Iexamples/firmware -o $@ $(INPUTS)
 
+$(OUT)/line: tests/c/line.c examples/firmware/line.c $(HEADERS) $(OUT)/expect.o
+	$(CC) $(CFLAGS) -Iexamples/firmware -o $@ $(INPUTS)
+
 $(OUT)/serial: tests/c/serial.c $(HEADERS) $(OUT)/expect.o
 	$(CC) $(CFLAGS) -o $@ $(INPUTS)
 
+# What several of the Rust tests are built of; a change in one builds them all again.
+RUST_SHARED := $(wildcard tests/shared/*.rs tests/reference/*.rs)
+
 $(OUT)/reference: tests/reference/frame.rs | $(OUT)
-	$(RUSTC) $(RUSTFLAGS) --test -o $@ $<
+	$(call rust,--test)
 
-$(OUT)/differential: tests/differential/main.rs $(wildcard tests/differential/*.rs) \
-		tests/reference/frame.rs $(ARCHIVE) | $(OUT)
-	$(RUSTC) $(RUSTFLAGS) -C link-arg=$(ARCHIVE) -o $@ $<
+$(OUT)/differential: tests/differential/main.rs $(wildcard tests/differential/*.rs) $(RUST_SHARED) \
+		$(ARCHIVE) | $(OUT)
+	$(call rust,-C link-arg=$(ARCHIVE))
 
-$(OUT)/replay_test: tests/replay/main.rs $(wildcard tests/replay/*.rs tests/reference/*.rs) \
-		tests/differential/random.rs | $(OUT)
-	$(RUSTC) $(RUSTFLAGS) -o $@ $<
+REPLAY_TEST := tests/replay/main.rs $(wildcard tests/replay/*.rs) $(RUST_SHARED)
 
-$(OUT)/replay_reference: tests/replay/main.rs $(wildcard tests/replay/*.rs tests/reference/*.rs) \
-		tests/differential/random.rs | $(OUT)
-	$(RUSTC) $(RUSTFLAGS) --test -o $@ $<
+$(OUT)/replay_test: $(REPLAY_TEST) | $(OUT)
+	$(call rust)
 
-ASH_TEST := tests/ash/main.rs $(wildcard tests/ash/*.rs) $(addprefix tests/,reference/ash.rs \
-	reference/frame.rs replay/child.rs $(addprefix differential/,random.rs seeds.rs tally.rs))
+$(OUT)/replay_reference: $(REPLAY_TEST) | $(OUT)
+	$(call rust,--test)
+
+ASH_TEST := tests/ash/main.rs $(wildcard tests/ash/*.rs) $(RUST_SHARED)
 
 $(OUT)/ash_test: $(ASH_TEST) | $(OUT)
-	$(RUSTC) $(RUSTFLAGS) -o $@ $<
+	$(call rust)
 
 $(OUT)/ash_reference: $(ASH_TEST) crates/ash_cases/stdin crates/ash_cases/stdout | $(OUT)
-	$(RUSTC) $(RUSTFLAGS) --test -o $@ $<
+	$(call rust,--test)
 
+CAPTURE := examples/captures/line
+CASE_6 := examples/histories/case_6
+
+## make test             run the host tests, and replay the histories of examples/ (rustc, python3)
 test: $(addprefix $(OUT)/,$(TESTS)) $(OUT)/display $(REPLAY) $(ASH)
+	$(call need,python3,Python (3.10 or later))
 	@set -e; for test in $(C_TESTS); do $(OUT)/$$test; done
-	@$(OUT)/display examples/captures/line.capture >$(OUT)/line.from-file
-	@diff -u examples/captures/line.expected $(OUT)/line.from-file
-	@$(OUT)/display <examples/captures/line.capture >$(OUT)/line.from-input
-	@diff -u examples/captures/line.expected $(OUT)/line.from-input
-	@echo "example: the capture gives its expected lines, from a file and from standard input"
+	@tests/example/run.sh $(OUT)/display $(CAPTURE).capture $(CAPTURE).expected
 	@$(OUT)/serial $(OUT)/display
+	@rm -rf $(OUT)/histories
+	@tests/histories/cases.py $(OUT)/histories
+	@diff -r -x '*.txt' $(OUT)/histories examples/histories
 	@tests/histories/run.sh $(REPLAY) examples/histories
 	@$(OUT)/reference --quiet
 	@$(OUT)/differential
 	@$(OUT)/history_text_test --quiet
-	@$(OUT)/history_text read <examples/histories/case_6.history | diff -u examples/histories/case_6.txt -
-	@$(OUT)/history_text write <examples/histories/case_6.txt | cmp - examples/histories/case_6.history
+	@tests/history_text/run.sh $(OUT)/history_text $(CASE_6).history $(CASE_6).txt
 	@$(OUT)/replay_reference --quiet
 	@$(OUT)/replay_test $(REPLAY) 20000 1
 	@$(OUT)/ash_reference --quiet
 	@$(OUT)/ash_test $(ASH)
+	@tests/mutants/written.py --apply-only
+	@tests/mutants/table.py --check
 
+## make soak             compare `replay` with the reference on a million histories (rustc)
 soak: $(OUT)/replay_test $(REPLAY)
 	$(OUT)/replay_test $(REPLAY) 1000000 $$(date +%s)
 
@@ -157,7 +172,7 @@ FUZZ := $(OUT)/fuzz
 FUZZ_CFLAGS := -std=c99 -O2 -g $(WARNINGS) -Iinclude -Ibench -Iexamples/firmware
 SANITIZERS := -fsanitize=fuzzer,address,undefined -fno-sanitize-recover=undefined
 COUNTERS := level=3 inline-8bit-counters pc-table trace-compares
-FUZZ_RUSTFLAGS := $(RUSTFLAGS) -C panic=abort -C codegen-units=1 --crate-type staticlib \
+FUZZ_COUNTERS := -C panic=abort -C codegen-units=1 --crate-type staticlib \
 	-C passes=sancov-module $(addprefix -C llvm-args=-sanitizer-coverage-,$(COUNTERS))
 
 fuzz-packages:
@@ -185,13 +200,15 @@ $(FUZZ)/archive: tests/fuzz/archive.c examples/firmware/collector.c $(PLAIN) $(H
 		$(addprefix $(FUZZ)/,coverage.o archive.s archive.o)
 	$(CLANG) $(FUZZ_CFLAGS) $(SANITIZERS) -o $@ $(INPUTS)
 
-$(FUZZ)/libreplay.a: tests/fuzz/replay.rs $(wildcard tests/fuzz/*.rs tests/reference/*.rs) \
-		tests/replay/histories.rs tests/differential/random.rs | $(FUZZ)
-	$(RUSTC) $(FUZZ_RUSTFLAGS) -o $@ $<
+$(FUZZ)/libreplay.a: tests/fuzz/replay.rs $(wildcard tests/fuzz/*.rs) tests/replay/histories.rs \
+		$(RUST_SHARED) | $(FUZZ)
+	$(call rust,$(FUZZ_COUNTERS))
 
 $(FUZZ)/replay: $(addprefix $(FUZZ)/,coverage.o replay.s replay.o libreplay.a)
 	$(CLANG) -fsanitize=fuzzer -o $@ $(INPUTS)
 
+## make fuzz             fuzz the library and `replay`, each for FUZZ_SECONDS=60 (rustc, clang and its
+##                       fuzzer's library, binutils)
 fuzz: $(FUZZ)/archive $(FUZZ)/replay
 	@tests/fuzz/run.sh $(FUZZ) archive $(FUZZ_SECONDS) 1200 examples/captures/line.capture \
 		examples/histories/*.history
@@ -199,19 +216,30 @@ fuzz: $(FUZZ)/archive $(FUZZ)/replay
 
 # The tests under valgrind
 
+## make valgrind         run the host tests under valgrind, some minutes (rustc, valgrind)
 valgrind: $(addprefix $(OUT)/,$(C_TESTS) serial differential replay_test display) $(REPLAY) $(ASH)
 	@tests/valgrind/run.sh $(VALGRIND) $(OUT) $(REPLAY) $(ASH) $(C_TESTS)
 
 # Mutants: small wrong programs, each to be refused
 
-CRATES ?= slices crc value rows board display host link frame packet transfer history refusals ash
+CRATES ?= slices crc value rows board display host link frame packet transfer history refusals ash ledger
 
-mutants:
-	rt check $(CRATES)
-	mkdir -p $(OUT)
+## make mutants          try small wrong programs against the prover; hours for all crates, of some:
+##                       make mutants CRATES="crc value" (python3)
+mutants: written-edits
 	tests/mutants/run.py $(OUT)/mutants $(CRATES)
 
+## make written-edits    try the written ones of them alone; CRATES as above (python3)
+written-edits:
+	$(need_rt)
+	rt check $(CRATES)
+	mkdir -p $(OUT)
+	tests/mutants/written.py $(OUT)/written $(CRATES)
+
+## make emptied          empty the contract of each public function, and say what breaks; CRATES as
+##                       above (python3)
 emptied:
+	$(need_rt)
 	rt check $(CRATES) ledger answers
 	mkdir -p $(OUT)
 	tests/mutants/emptied.py $(OUT)/emptied $(CRATES)
@@ -227,16 +255,24 @@ $(OUT)/receive $(OUT)/plain_receiver: $(OUT)/%: bench/%.c $(PLAIN) $(HEADERS) | 
 $(OUT)/table_receiver: bench/plain_receiver.c $(PLAIN) $(HEADERS) | $(OUT)
 	$(CC) $(BENCH_CFLAGS) -DCONTENT_CRC=table_crc -o $@ $(INPUTS)
 
+## make measure          measure stack and code size alone
 measure: $(OUT)/stack
 	@$(OUT)/stack
 	@echo "code size in bytes (text)"
 	@$(SIZE) $(ARCHIVE)
 
+## make bench            measure speed, stack and code size
 bench: $(OUT)/speed measure bench-receive
 	@$(OUT)/speed
 
+## make bench-receive    measure the speed of the receiver alone
 bench-receive: $(addprefix $(OUT)/,receive plain_receiver table_receiver) $(RECEIVER)
 	@$(OUT)/receive $(RECEIVER) $(OUT)/plain_receiver $(OUT)/table_receiver
 
+## make clean            remove what this file built, the library apart
 clean:
 	rm -rf $(OUT)
+
+##
+## The library and the programs are built by rt, the Rattle toolchain, and the C by a C99 and C++11
+## compiler. What else a command needs stands behind it in brackets.

@@ -19,9 +19,6 @@
 #define ROWS 16
 #define NAME_MAX_LENGTH 27
 #define STREAM_MAX 65536
-#define REPLY_ROOM 9
-#define DATA 0x01
-#define ACKNOWLEDGEMENT 0x02
 #define UPDATE 0x03
 #define NAME_ITEM 0x01
 #define INTEGER_ITEM 0x02
@@ -129,7 +126,8 @@ static void take_data(struct receiver *receiver, uint8_t *reply, uint8_t *packet
 {
     uint8_t sequence = receiver->content[1];
     size_t length = receiver->length - 4;
-    plain_frame_write(ACKNOWLEDGEMENT, sequence, NULL, 0, reply, REPLY_ROOM);
+    plain_frame_write(ARZNAVIK_TYPE_ACKNOWLEDGEMENT, sequence, NULL, 0, reply,
+                      ARZNAVIK_ACKNOWLEDGEMENT_MAX);
     if (sequence != 0 && sequence == receiver->last) {
         receiver->again++;
         return;
@@ -152,11 +150,11 @@ static unsigned close_frame(struct receiver *receiver, uint8_t *reply, uint8_t *
         return ARZNAVIK_SHORT_CONTENT;
     if (CONTENT_CRC(ARZNAVIK_CRC_START, receiver->content, receiver->length) != 0)
         return ARZNAVIK_BAD_CHECK;
-    if (receiver->content[0] == DATA) {
+    if (receiver->content[0] == ARZNAVIK_TYPE_DATA) {
         take_data(receiver, reply, packet);
         return 0;
     }
-    if (receiver->content[0] != ACKNOWLEDGEMENT)
+    if (receiver->content[0] != ARZNAVIK_TYPE_ACKNOWLEDGEMENT)
         return 5;
     if (receiver->length != 4)
         return 6;
@@ -216,7 +214,7 @@ static size_t receive(struct receiver *receiver, const uint8_t *piece, size_t le
 
 static void feed(struct receiver *receiver, const uint8_t *stream, size_t length, size_t size)
 {
-    static uint8_t reply[REPLY_ROOM], packet[ARZNAVIK_PAYLOAD_MAX];
+    static uint8_t reply[ARZNAVIK_ACKNOWLEDGEMENT_MAX], packet[ARZNAVIK_PAYLOAD_MAX];
     for (size_t at = 0; at < length;) {
         size_t end = size == 0 || length - at < size ? length : at + size;
         while (at < end)

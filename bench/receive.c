@@ -152,8 +152,8 @@ static struct stream make_stream(const char *kind, const uint8_t *payload, size_
     static uint8_t frame[ARZNAVIK_FRAME_MAX];
     struct stream stream = {kind, 0, empty_file()};
     for (unsigned i = 0;; i++) {
-        uint64_t report = plain_frame_write(0x01, (uint8_t)(1 + i % 255), payload, payload_length,
-                                            frame, sizeof frame);
+        uint64_t report = plain_frame_write(ARZNAVIK_TYPE_DATA, (uint8_t)(1 + i % 255), payload,
+                                            payload_length, frame, sizeof frame);
         size_t length = arznavik_length(report);
         if (stream.length + length > STREAM_MAX)
             return stream;
@@ -203,5 +203,5 @@ int main(int argc, char **argv)
     for (size_t i = 0; i < sizeof streams / sizeof streams[0]; i++)
         for (size_t j = 0; j < sizeof sizes / sizeof sizes[0]; j++)
             print_row(programs, sizes[j], &streams[i]);
-    return EXIT_SUCCESS;
+    return fclose(stdout) == 0 ? EXIT_SUCCESS : EXIT_FAILURE;
 }

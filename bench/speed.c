@@ -126,5 +126,5 @@ int main(void)
     for (size_t i = 0; i < sizeof rows / sizeof rows[0]; i++)
         for (int j = 0; j < WORKLOADS; j++)
             print_row(&rows[i], &workloads[j]);
-    return EXIT_SUCCESS;
+    return fclose(stdout) == 0 ? EXIT_SUCCESS : EXIT_FAILURE;
 }

@@ -87,5 +87,5 @@ int main(void)
     for (size_t i = 0; i < sizeof calls / sizeof calls[0]; i++)
         printf("%-11s  %10zu  %10zu\n", calls[i].name, most(calls[i].library, workloads) - empty,
                most(calls[i].plain, workloads) - empty);
-    return EXIT_SUCCESS;
+    return fclose(stdout) == 0 ? EXIT_SUCCESS : EXIT_FAILURE;
 }

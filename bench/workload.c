@@ -2,7 +2,7 @@
 
 #include "plain.h"
 
-#define TYPE 0x01
+#define TYPE ARZNAVIK_TYPE_DATA
 #define SEQUENCE 0x05
 
 static uint8_t output[ARZNAVIK_FRAME_MAX];

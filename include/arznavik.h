@@ -1,13 +1,18 @@
 /*
- * Arznavik for C99 and C++: the check (CRC), the frame writer and the frame check.
+ * Arznavik for C99 and C++11: the check (CRC), the frame writer and the frame check.
  *
  * On the line a frame is the flag 7e, stuffed content and the flag 7e. Content is a type, a
  * sequence, a payload and a 16-bit check, high byte first. Stuffing sends 7e as 7d 5e and 7d as
  * 7d 5d.
  *
- * A program calls arznavik_crc_of, arznavik_write_frame and arznavik_check_frame. It owes them two
- * things: a pointer is valid for the length beside it, and an output overlaps no input. A pointer
- * with length 0 may be NULL. The calls keep no state and allocate nothing.
+ * Call these:
+ *
+ *   arznavik_crc_of, arznavik_write_frame, arznavik_check_frame
+ *   arznavik_refusal, _type, _sequence, _length, _place    to read the report of the last two
+ *
+ * A program owes them two things: a pointer is valid for the length beside it, and an output
+ * overlaps no input. A pointer with length 0 may be NULL. The calls keep no state and allocate
+ * nothing. The other functions in this file are raw exports and their helpers, marked so below.
  */
 #ifndef ARZNAVIK_H
 #define ARZNAVIK_H
@@ -19,15 +24,31 @@
 extern "C" {
 #endif
 
+/*
+ * The version of this header, with the library of the same sources. A program that was written for
+ * one version compiles and means the same with each later one of the same major number: there the
+ * minor number has grown, and names were only added.
+ */
+#define ARZNAVIK_VERSION_MAJOR 1
+#define ARZNAVIK_VERSION_MINOR 0
+
+/* ---- Names and limits ---- */
+
 /* Limits in bytes. */
 #define ARZNAVIK_PAYLOAD_MAX 383
 /* Type, sequence, payload and check. */
 #define ARZNAVIK_CONTENT_MAX 387
 /* Two flags, and between them the longest content with each of its bytes escaped. */
 #define ARZNAVIK_FRAME_MAX 776
+/* Room for any acknowledgement: two flags, its type, and sequence and both check bytes escaped. */
+#define ARZNAVIK_ACKNOWLEDGEMENT_MAX 9
 
 #define ARZNAVIK_FLAG 0x7e
 #define ARZNAVIK_ESCAPE 0x7d
+
+/* Types of a frame. The writer and the check take any other type too. */
+#define ARZNAVIK_TYPE_DATA 0x01
+#define ARZNAVIK_TYPE_ACKNOWLEDGEMENT 0x02
 
 /* The check of a frame starts here. */
 #define ARZNAVIK_CRC_START 0xffff
@@ -51,15 +72,7 @@ enum arznavik_refusals {
     ARZNAVIK_LONG_PAYLOAD = 8
 };
 
-/*
- * The functions of the static library. A pointer given to them is never NULL, even where its length
- * is 0; the inline functions at the end see to that.
- */
-uint16_t arznavik_crc(uint16_t start, const uint8_t *bytes, size_t length);
-uint64_t arznavik_frame_write(uint8_t type, uint8_t sequence, const uint8_t *payload,
-                              size_t payload_length, uint8_t *output, size_t output_length);
-uint64_t arznavik_frame_check(const uint8_t *frame, size_t frame_length, uint8_t *output,
-                              size_t output_length);
+/* ---- Reports ---- */
 
 /*
  * The frame writer and the frame check answer a report:
@@ -97,6 +110,18 @@ static inline uint32_t arznavik_place(uint64_t report)
     return (uint32_t)(report >> 40);
 }
 
+/*
+ * ---- Raw exports: not to be called from a program ----
+ *
+ * The functions of the static library. A pointer given to them is never NULL, even where its length
+ * is 0; the calls to use, behind them, see to that.
+ */
+uint16_t arznavik_crc(uint16_t start, const uint8_t *bytes, size_t length);
+uint64_t arznavik_frame_write(uint8_t type, uint8_t sequence, const uint8_t *payload,
+                              size_t payload_length, uint8_t *output, size_t output_length);
+uint64_t arznavik_frame_check(const uint8_t *frame, size_t frame_length, uint8_t *output,
+                              size_t output_length);
+
 /* An address that the library takes: the given one or, for no bytes, one that is not NULL. */
 static inline const uint8_t *arznavik_input(const uint8_t *bytes, size_t length)
 {
@@ -109,6 +134,8 @@ static inline uint8_t *arznavik_output(uint8_t *bytes, size_t length)
     static uint8_t none;
     return length != 0 ? bytes : &none;
 }
+
+/* ---- Calls to use ---- */
 
 /* The check over the bytes: polynomial 1021, high bit first, nothing inverted. */
 static inline uint16_t arznavik_crc_of(uint16_t start, const uint8_t *bytes, size_t length)

@@ -4,37 +4,45 @@
 
 #include <errno.h>
 #include <fcntl.h>
-#include <termios.h>
+#include <sys/stat.h>
 #include <unistd.h>
 
-/* Eight data bits, and every byte passes as it is. The speed stays as it was set. */
+/* IXON and IXOFF would take the bytes 11 and 13 off the line, PARMRK would put bytes in. */
+void line_make_raw(struct termios *settings)
+{
+    settings->c_iflag &=
+        ~(tcflag_t)(BRKINT | PARMRK | ISTRIP | INLCR | IGNCR | ICRNL | IXON | IXOFF);
+    settings->c_oflag &= ~(tcflag_t)OPOST;
+    settings->c_lflag &= ~(tcflag_t)(ECHO | ECHONL | ICANON | ISIG | IEXTEN);
+    settings->c_cflag &= ~(tcflag_t)CSIZE;
+    settings->c_cflag |= CS8 | CREAD;
+    settings->c_cc[VMIN] = 1;
+    settings->c_cc[VTIME] = 0;
+}
+
 static int set_raw(int descriptor)
 {
     struct termios settings;
     if (tcgetattr(descriptor, &settings) != 0)
         return -1;
-    settings.c_iflag &= ~(tcflag_t)(IGNBRK | BRKINT | PARMRK | INPCK | ISTRIP | INLCR | IGNCR |
-                                    ICRNL | IXON | IXOFF);
-    settings.c_oflag &= ~(tcflag_t)OPOST;
-    settings.c_lflag &= ~(tcflag_t)(ECHO | ECHONL | ICANON | ISIG | IEXTEN);
-    settings.c_cflag &= ~(tcflag_t)(CSIZE | PARENB);
-    settings.c_cflag |= CS8 | CREAD | CLOCAL;
-    settings.c_cc[VMIN] = 1;
-    settings.c_cc[VTIME] = 0;
+    line_make_raw(&settings);
     return tcsetattr(descriptor, TCSANOW, &settings);
 }
 
-/* Opened without waiting for a carrier, for reading and writing if the path allows both. */
+/* A device is opened for writing too. A pipe is not: whoever holds its writing end never sees its
+ * end. Opened without waiting, for a carrier or for the writer of a pipe. */
 static int open_path(const char *path)
 {
-    int descriptor = open(path, O_RDWR | O_NOCTTY | O_NONBLOCK);
-    if (descriptor < 0)
-        descriptor = open(path, O_RDONLY | O_NOCTTY | O_NONBLOCK);
-    return descriptor;
+    struct stat status;
+    if (stat(path, &status) != 0)
+        return -1;
+    int direction = S_ISCHR(status.st_mode) ? O_RDWR : O_RDONLY;
+    return open(path, direction | O_NOCTTY | O_NONBLOCK);
 }
 
 int line_open(struct line *line, const char *path)
 {
+    line->name = path != NULL ? path : "standard input";
     line->descriptor = STDIN_FILENO;
     line->is_device = 0;
     if (path == NULL)

@@ -10,12 +10,21 @@
 
 #include <stdio.h>
 #include <stdlib.h>
+#include <string.h>
 
-#define TYPE_DATA 0x01
-#define TYPE_ACKNOWLEDGEMENT 0x02
+static const char usage[] =
+    "usage: display [FILE or DEVICE]\n"
+    "Reads a line and acknowledges its data frames: from a recording, a pipe, a serial device, or\n"
+    "standard input. A device is put in raw mode and keeps its speed, parity, stop bits and\n"
+    "hardware flow control, so they are set before, for a module in its default state by:\n"
+    "    stty -F DEVICE 115200 cs8 parenb parodd -cstopb crtscts\n";
 
-/* Flags, type, sequence and check, of which the sequence and the check may be escaped. */
-#define ACKNOWLEDGEMENT_MAX 9
+/* Says what failed, by errno. */
+static int failed(const char *name)
+{
+    perror(name);
+    return -1;
+}
 
 static void print_bytes(const char *name, const uint8_t *bytes, size_t length)
 {
@@ -26,11 +35,13 @@ static void print_bytes(const char *name, const uint8_t *bytes, size_t length)
 
 static int acknowledge(const struct line *line, uint8_t sequence)
 {
-    uint8_t reply[ACKNOWLEDGEMENT_MAX];
-    uint64_t report =
-        arznavik_write_frame(TYPE_ACKNOWLEDGEMENT, sequence, NULL, 0, reply, sizeof reply);
+    uint8_t reply[ARZNAVIK_ACKNOWLEDGEMENT_MAX];
+    uint64_t report = arznavik_write_frame(ARZNAVIK_TYPE_ACKNOWLEDGEMENT, sequence, NULL, 0, reply,
+                                           sizeof reply);
     print_bytes("reply", reply, arznavik_length(report));
-    return line_reply(line, reply, arznavik_length(report));
+    if (line_reply(line, reply, arznavik_length(report)) != 0)
+        return failed(line->name);
+    return 0;
 }
 
 /* Prints what a good frame holds, and answers a data frame. */
@@ -39,52 +50,78 @@ static int take_good(const struct line *line, uint64_t report, const uint8_t *pa
     printf("type %02x sequence %02x", arznavik_type(report), arznavik_sequence(report));
     if (arznavik_length(report) != 0)
         print_bytes("payload", payload, arznavik_length(report));
-    if (arznavik_type(report) != TYPE_DATA)
+    if (arznavik_type(report) != ARZNAVIK_TYPE_DATA)
         return 0;
     return acknowledge(line, arznavik_sequence(report));
+}
+
+/* Ends the printed line, and sees that it got out. */
+static int end_line(void)
+{
+    printf("\n");
+    if (fflush(stdout) != 0 || ferror(stdout))
+        return failed("standard output");
+    return 0;
 }
 
 static int take_frame(const struct line *line, const uint8_t *frame, size_t length)
 {
     uint8_t payload[ARZNAVIK_PAYLOAD_MAX];
     uint64_t report = arznavik_check_frame(frame, length, payload, sizeof payload);
-    int result = 0;
     if (arznavik_refusal(report) != ARZNAVIK_TAKEN)
         printf("refused %u", arznavik_refusal(report));
-    else
-        result = take_good(line, report, payload);
-    printf("\n");
-    fflush(stdout);
-    return result;
+    else if (take_good(line, report, payload) != 0)
+        return -1;
+    return end_line();
 }
 
-/* Runs until the line ends. Answers 0, or -1 with errno set. */
+static int take_piece(const struct line *line, struct collector *collector, const uint8_t *piece,
+                      int count)
+{
+    for (int i = 0; i < count; i++) {
+        size_t length = collector_take(collector, piece[i]);
+        if (length != 0 && take_frame(line, collector->frame, length) != 0)
+            return -1;
+    }
+    return 0;
+}
+
+/* Runs until the line ends. Answers 0, or -1 after a message. */
 static int run(const struct line *line)
 {
     struct collector collector;
     uint8_t piece[256];
-    int count;
+    int count, any = 0;
     collector_start(&collector);
     while ((count = line_read(line, piece, sizeof piece)) > 0) {
-        for (int i = 0; i < count; i++) {
-            size_t length = collector_take(&collector, piece[i]);
-            if (length != 0 && take_frame(line, collector.frame, length) != 0)
-                return -1;
-        }
+        any = 1;
+        if (take_piece(line, &collector, piece, count) != 0)
+            return -1;
     }
-    return count;
+    if (count < 0)
+        return failed(line->name);
+    if (!any) {
+        fprintf(stderr, "%s: not one byte came, or nobody writes to it\n", line->name);
+        return -1;
+    }
+    return 0;
 }
 
 int main(int argc, char **argv)
 {
     struct line line;
-    const char *path = argc == 2 ? argv[1] : NULL;
-    if (argc > 2) {
-        fprintf(stderr, "usage: %s [FILE or DEVICE]\n", argv[0]);
+    if (argc > 2 || (argc == 2 && strcmp(argv[1], "--help") == 0)) {
+        fputs(usage, stderr);
         return 2;
     }
-    if (line_open(&line, path) != 0 || run(&line) != 0) {
-        perror(path != NULL ? path : "standard input");
+    if (line_open(&line, argc == 2 ? argv[1] : NULL) != 0) {
+        failed(line.name);
+        return EXIT_FAILURE;
+    }
+    if (run(&line) != 0)
+        return EXIT_FAILURE;
+    if (fclose(stdout) != 0) {
+        failed("standard output");
         return EXIT_FAILURE;
     }
     return EXIT_SUCCESS;

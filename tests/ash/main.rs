@@ -6,19 +6,19 @@
 mod ash;
 mod batches;
 mod cases;
-#[path = "../replay/child.rs"]
+#[path = "../shared/child.rs"]
 mod child;
 mod classes;
 #[path = "../reference/frame.rs"]
 #[allow(dead_code)]
 mod frame;
 mod generated;
-#[path = "../differential/random.rs"]
+#[path = "../shared/random.rs"]
 mod random;
-#[path = "../differential/seeds.rs"]
+#[path = "../shared/seeds.rs"]
 mod seeds;
 mod systematic;
-#[path = "../differential/tally.rs"]
+#[path = "../shared/tally.rs"]
 mod tally;
 
 use classes::Class;

@@ -1,8 +1,23 @@
-// The header as C++: its accessors on a report with every field set, and calls with NULL.
+// The header as C++: its names, its accessors on a report with every field set, calls with NULL.
 #include "arznavik.h"
 
 extern "C" {
 #include "expect.h"
+}
+
+static const uint8_t TYPE = ARZNAVIK_TYPE_ACKNOWLEDGEMENT;
+
+// What programs compiled with this version have built in.
+static void names()
+{
+    expect_number("major version", ARZNAVIK_VERSION_MAJOR, 1);
+    expect_number("minor version", ARZNAVIK_VERSION_MINOR, 0);
+    expect_number("type of data", ARZNAVIK_TYPE_DATA, 1);
+    expect_number("type of an acknowledgement", ARZNAVIK_TYPE_ACKNOWLEDGEMENT, 2);
+    expect_number("room of an acknowledgement", ARZNAVIK_ACKNOWLEDGEMENT_MAX, 9);
+    expect_number("room of a payload", ARZNAVIK_PAYLOAD_MAX, 383);
+    expect_number("room of content", ARZNAVIK_CONTENT_MAX, 4 + ARZNAVIK_PAYLOAD_MAX);
+    expect_number("room of a frame", ARZNAVIK_FRAME_MAX, 2 + 2 * ARZNAVIK_CONTENT_MAX);
 }
 
 static void accessors()
@@ -21,13 +36,13 @@ static void null_slices()
     static const uint8_t acknowledgement[] = {0x7e, 0x02, 0x01, 0x6b, 0x4c, 0x7e};
     uint8_t output[ARZNAVIK_FRAME_MAX] = {0};
     expect_number("check of NULL", arznavik_crc_of(ARZNAVIK_CRC_START, nullptr, 0), 0xffff);
-    expect_number("NULL payload", arznavik_write_frame(2, 1, nullptr, 0, output, sizeof output),
+    expect_number("NULL payload", arznavik_write_frame(TYPE, 1, nullptr, 0, output, sizeof output),
                   uint64_t(sizeof acknowledgement) << 24);
     expect_bytes("NULL payload", output, acknowledgement, sizeof acknowledgement);
     expect_number("NULL frame", arznavik_check_frame(nullptr, 0, output, sizeof output),
                   ARZNAVIK_BAD_FRAMING);
-    expect_number("NULL output of the writer", arznavik_write_frame(2, 1, nullptr, 0, nullptr, 0),
-                  ARZNAVIK_SHORT_OUTPUT);
+    expect_number("NULL output of the writer",
+                  arznavik_write_frame(TYPE, 1, nullptr, 0, nullptr, 0), ARZNAVIK_SHORT_OUTPUT);
     expect_number("NULL output of the check", arznavik_check_frame(output, 6, nullptr, 0),
                   ARZNAVIK_SHORT_OUTPUT);
     expect_bytes("output stays", output, acknowledgement, sizeof acknowledgement);
@@ -35,6 +50,7 @@ static void null_slices()
 
 int main()
 {
+    names();
     accessors();
     null_slices();
     return expect_summary("header in C++");

@@ -4,6 +4,8 @@
 #include "calls.h"
 #include "expect.h"
 
+#define ACKNOWLEDGEMENT ARZNAVIK_TYPE_ACKNOWLEDGEMENT
+
 /* Known answers 1 to 4, written and read back. */
 static void frames(void)
 {
@@ -19,10 +21,13 @@ static void frames(void)
         const uint8_t *frame;
         size_t length;
     } answers[] = {
-        {"known answer 1", {0x02, 0x01, payload, sizeof payload}, answer_1, sizeof answer_1},
-        {"known answer 2", {0x02, 0x01, NULL, 0}, answer_2, sizeof answer_2},
-        {"known answer 3", {0x02, 0x00, NULL, 0}, answer_3, sizeof answer_3},
-        {"known answer 4", {0x02, 0x7d, NULL, 0}, answer_4, sizeof answer_4},
+        {"known answer 1",
+         {ACKNOWLEDGEMENT, 0x01, payload, sizeof payload},
+         answer_1,
+         sizeof answer_1},
+        {"known answer 2", {ACKNOWLEDGEMENT, 0x01, NULL, 0}, answer_2, sizeof answer_2},
+        {"known answer 3", {ACKNOWLEDGEMENT, 0x00, NULL, 0}, answer_3, sizeof answer_3},
+        {"known answer 4", {ACKNOWLEDGEMENT, 0x7d, NULL, 0}, answer_4, sizeof answer_4},
     };
     for (size_t i = 0; i < sizeof answers / sizeof answers[0]; i++) {
         expect_written(answers[i].what, answers[i].parts, ARZNAVIK_FRAME_MAX, answers[i].frame,
@@ -37,7 +42,7 @@ static void data_frame(void)
 {
     static const uint8_t frame[] = {0x7e, 0x01, 0x00, 0x01, 0x03, 0x00, 0x00, 0x01, 0x02, 0x68,
                                     0x31, 0x16, 0x04, 0x00, 0x00, 0x0d, 0x7a, 0x1a, 0xa4, 0x7e};
-    struct parts parts = {0x01, 0x00, frame + 3, 14};
+    struct parts parts = {ARZNAVIK_TYPE_DATA, 0x00, frame + 3, 14};
     expect_taken("known answer 6, read", frame, sizeof frame, ARZNAVIK_PAYLOAD_MAX, parts);
     expect_written("known answer 6, written", parts, sizeof frame, frame, sizeof frame);
 }

@@ -14,7 +14,7 @@ static const uint8_t good[] = {0x7e, 0x02, 0x01, 0x6b, 0x4c, 0x7e};
 static void output_room(void)
 {
     static const uint8_t no_flags[] = {0x02, 0x01};
-    struct parts parts = {0x02, 0x01, NULL, 0};
+    struct parts parts = {ARZNAVIK_TYPE_ACKNOWLEDGEMENT, 0x01, NULL, 0};
     expect_taken("output of 383", good, sizeof good, ENOUGH, parts);
     expect_taken("output of 384", good, sizeof good, ENOUGH + 1, parts);
     expect_refused("output of 382", good, sizeof good, ENOUGH - 1, ARZNAVIK_SHORT_OUTPUT);

@@ -1,11 +1,16 @@
 /*
  * The example on a serial device: a pseudo-terminal stands for the line, and the test plays the
  * module at its other end. The example's path is the argument.
+ *
+ * A pseudo-terminal of Linux takes PARENB for itself and switches it off; that the example leaves
+ * it alone is for tests/c/line.c to say.
  */
 #define _XOPEN_SOURCE 700
+#define _DEFAULT_SOURCE
 
 #include "expect.h"
 
+#include <errno.h>
 #include <fcntl.h>
 #include <poll.h>
 #include <stdio.h>
@@ -34,12 +39,25 @@ static int open_terminal(struct terminal *terminal)
     return terminal->device < 0 ? -1 : 0;
 }
 
+/* Sets the device as source document 000 asks, and answers what it has kept of that. */
+static int set_device(int device, struct termios *kept)
+{
+    if (tcgetattr(device, kept) != 0)
+        return -1;
+    kept->c_cflag |= PARENB | PARODD | CRTSCTS;
+    kept->c_cflag &= ~(tcflag_t)CSTOPB;
+    if (cfsetispeed(kept, B115200) != 0 || cfsetospeed(kept, B115200) != 0)
+        return -1;
+    return tcsetattr(device, TCSANOW, kept) != 0 ? -1 : tcgetattr(device, kept);
+}
+
 static pid_t start_example(const char *example, const struct terminal *terminal, int output)
 {
     pid_t child = fork();
     if (child != 0)
         return child;
-    dup2(output, STDOUT_FILENO);
+    if (dup2(output, STDOUT_FILENO) < 0)
+        _exit(126);
     close(terminal->module);
     close(terminal->device);
     execl(example, example, terminal->path, (char *)NULL);
@@ -56,6 +74,17 @@ static int wait_until_raw(int device)
         poll(NULL, 0, 10);
     }
     return 0;
+}
+
+static void expect_kept(int device, const struct termios *kept)
+{
+    struct termios settings;
+    expect_number("settings are told", (uint64_t)tcgetattr(device, &settings), 0);
+    expect_number("odd parity and flow control were set", kept->c_cflag & (PARODD | CRTSCTS),
+                  PARODD | CRTSCTS);
+    expect_number("control flags stay", settings.c_cflag, kept->c_cflag);
+    expect_number("the input's speed stays", cfgetispeed(&settings), B115200);
+    expect_number("the output's speed stays", cfgetospeed(&settings), B115200);
 }
 
 /* Reads until the room is full, nothing more comes, or the other end is closed. */
@@ -92,17 +121,23 @@ static void converse(int module, int output)
 int main(int argc, char **argv)
 {
     struct terminal terminal;
+    struct termios kept;
     int output[2];
     int status = 0;
     if (argc != 2 || pipe(output) != 0)
         return 2;
     if (open_terminal(&terminal) != 0) {
-        printf("serial: not run, this system has no pseudo-terminals\n");
-        return EXIT_SUCCESS;
+        /* A system that has none is passed over. */
+        int result = errno == ENOENT ? EXIT_SUCCESS : EXIT_FAILURE;
+        perror("serial: not run, no pseudo-terminal");
+        return result;
     }
     alarm(PATIENCE_S);
+    if (set_device(terminal.device, &kept) != 0)
+        return 2;
     pid_t child = start_example(argv[1], &terminal, output[1]);
     expect_number("raw mode is set", (uint64_t)wait_until_raw(terminal.device), 1);
+    expect_kept(terminal.device, &kept);
     close(terminal.device);
     converse(terminal.module, output[0]);
     close(terminal.module);

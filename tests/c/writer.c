@@ -37,12 +37,12 @@ static void longest_frame(void)
 static void longest_payload(void)
 {
     static uint8_t payload[ARZNAVIK_PAYLOAD_MAX + 1];
-    uint8_t frame[2 + ARZNAVIK_CONTENT_MAX] = {ARZNAVIK_FLAG, 0x01, 0x20};
+    uint8_t frame[2 + ARZNAVIK_CONTENT_MAX] = {ARZNAVIK_FLAG, ARZNAVIK_TYPE_DATA, 0x20};
     frame[386] = 0x9f;
     frame[387] = 0xaa;
     frame[388] = ARZNAVIK_FLAG;
-    struct parts taken = {0x01, 0x20, payload, ARZNAVIK_PAYLOAD_MAX};
-    struct parts passed = {0x01, 0x20, payload, ARZNAVIK_PAYLOAD_MAX + 1};
+    struct parts taken = {ARZNAVIK_TYPE_DATA, 0x20, payload, ARZNAVIK_PAYLOAD_MAX};
+    struct parts passed = {ARZNAVIK_TYPE_DATA, 0x20, payload, ARZNAVIK_PAYLOAD_MAX + 1};
     expect_written("payload of 383, room to spare", taken, CALLS_ROOM, frame, sizeof frame);
     expect_written("payload of 383, exact room", taken, sizeof frame, frame, sizeof frame);
     expect_not_written("payload of 383, one byte short", taken, sizeof frame - 1,
@@ -58,8 +58,8 @@ static void exact_room(void)
 {
     static const uint8_t plain[] = {0x7e, 0x02, 0x01, 0x6b, 0x4c, 0x7e};
     static const uint8_t escaped[] = {0x7e, 0x02, 0x7d, 0x5d, 0xd4, 0x57, 0x7e};
-    struct parts sequence_01 = {0x02, 0x01, NULL, 0};
-    struct parts sequence_7d = {0x02, 0x7d, NULL, 0};
+    struct parts sequence_01 = {ARZNAVIK_TYPE_ACKNOWLEDGEMENT, 0x01, NULL, 0};
+    struct parts sequence_7d = {ARZNAVIK_TYPE_ACKNOWLEDGEMENT, 0x7d, NULL, 0};
     expect_written("acknowledgement in 6 bytes", sequence_01, 6, plain, sizeof plain);
     expect_written("acknowledgement in 7 bytes", sequence_01, 7, plain, sizeof plain);
     expect_written("escaped acknowledgement in 7", sequence_7d, 7, escaped, sizeof escaped);
@@ -70,10 +70,26 @@ static void exact_room(void)
                            ARZNAVIK_SHORT_OUTPUT);
 }
 
+/* The room that the header names is enough for each sequence; the longest take 7 bytes. */
+static void acknowledgement_room(void)
+{
+    uint8_t reply[ARZNAVIK_ACKNOWLEDGEMENT_MAX];
+    size_t longest = 0;
+    for (unsigned sequence = 0; sequence < 256; sequence++) {
+        uint64_t report = arznavik_write_frame(ARZNAVIK_TYPE_ACKNOWLEDGEMENT, (uint8_t)sequence,
+                                               NULL, 0, reply, sizeof reply);
+        expect_number("an acknowledgement has room", arznavik_refusal(report), ARZNAVIK_TAKEN);
+        if (longest < arznavik_length(report))
+            longest = arznavik_length(report);
+    }
+    expect_number("longest acknowledgement", longest, 7);
+}
+
 int main(void)
 {
     longest_payload();
     longest_frame();
     exact_room();
+    acknowledgement_room();
     return expect_summary("writer");
 }

@@ -7,8 +7,11 @@ mod compare;
 #[path = "../reference/frame.rs"]
 mod frame;
 mod inputs;
+#[path = "../shared/random.rs"]
 mod random;
+#[path = "../shared/seeds.rs"]
 mod seeds;
+#[path = "../shared/tally.rs"]
 #[allow(dead_code)]
 mod tally;
 

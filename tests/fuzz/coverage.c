@@ -52,14 +52,16 @@ static void on_breakpoint(int signal, siginfo_t *information, void *context)
     *next -= 1;
 }
 
-static void write_places(const char *path)
+/* Answers whether they were written: an old file in their place would tell of another run. */
+static int write_places(const char *path)
 {
     FILE *places = fopen(path, "w");
     if (places == NULL)
-        return;
+        return 0;
     for (size_t i = 0; i < coverage_length; i++)
         fprintf(places, "%d\n", met[i]);
-    fclose(places);
+    int failed = ferror(places);
+    return fclose(places) == 0 && !failed;
 }
 
 static void report(void)
@@ -70,8 +72,10 @@ static void report(void)
         count += met[i];
     fprintf(stderr, "coverage: %zu of %zu instructions of the compiled code\n", count,
             coverage_length);
-    if (path != NULL)
-        write_places(path);
+    if (path != NULL && !write_places(path)) {
+        perror(path);
+        _exit(EXIT_FAILURE);
+    }
 }
 
 static void make_writable(void)
@@ -100,5 +104,6 @@ void coverage_start(void)
         covered[i] = *coverage_instructions[i];
         *coverage_instructions[i] = BREAKPOINT;
     }
-    atexit(report);
+    if (atexit(report) != 0)
+        fail("no report at the end");
 }

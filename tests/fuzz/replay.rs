@@ -11,7 +11,7 @@ mod histories;
 mod mutate;
 #[path = "../reference/program.rs"]
 mod program;
-#[path = "../differential/random.rs"]
+#[path = "../shared/random.rs"]
 mod random;
 
 use std::cell::RefCell;

@@ -7,7 +7,7 @@ An emptied contract says only that the answer is itself, and the function's own 
 that what breaks is a caller's proof or a theorem that rests on the contract. It works on a copy of the
 repository under OUT/work and writes OUT/emptied.txt, a line for each function: the function, then the file and the
 name that is refused first, in its own crate or in the crates above it, lowest first. `nothing` there is a contract
-that no library needs.
+that no library needs. A function of which the prover gave no answer is a failure.
 """
 
 import re
@@ -23,6 +23,8 @@ EMPTY = "    ensures { λ r. ⌜ r ≡ r ⌝ }"
 EQUALITY = "ghost use mathlib.Core.Path.{_≡_};\n"
 # The proof that the answer is as promised: its signature, what it looks into, and its lines.
 RETURNS = re.compile(r"^(returns\S*)( : [^\n]*\n)(?:unfolding [^\n]*\n)?\1 (\w+) =.*?(?=^\S|\Z)", re.M | re.S)
+# Verdicts that show nothing: the changed source was not read, or the prover took too long.
+NO_ANSWER = ("unread", "late")
 # Where an error stands, and the name of what is refused.
 PLACE = re.compile(r"(\S+?):\d+:\d+: error: `([^`]+)`")
 
@@ -41,13 +43,19 @@ def main() -> None:
     copy = out / "work"
     make_copy(copy)
     order = libraries(copy)
+    unanswered = []
     with (out / "emptied.txt").open("w") as lines:
         for crate in asked or list(order):
             for function in public_functions(copy, crate):
-                line = f"{crate}::{function.name}\t{broken(copy, order, function)}"
+                first = broken(copy, order, function)
+                if first.startswith(NO_ANSWER):
+                    unanswered.append(function.name)
+                line = f"{crate}::{function.name}\t{first}"
                 lines.write(line + "\n")
                 lines.flush()
                 print(line, flush=True)
+    if unanswered:
+        sys.exit(f"no answer of: {', '.join(unanswered)}")
 
 
 def libraries(copy: Path) -> dict[str, list[str]]:
@@ -88,6 +96,8 @@ def broken(copy: Path, order: dict[str, list[str]], function: Public) -> str:
         above = [name for name, below in order.items() if function.crate in below]
         for crate in [function.crate, *above]:
             verdict, error = check(copy, crate)
+            if verdict in NO_ANSWER:
+                return f"{verdict}: {error}"
             if verdict != "passed":
                 place = PLACE.match(error)
                 return f"{place.group(1)} {place.group(2)}" if place else error

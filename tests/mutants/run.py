@@ -11,12 +11,15 @@ error. A constant that its own crate does not pin down is tried in the crates ab
     fact     refused: a fact of the contract, of a law or of safety does not hold
     form     refused: the proof names a place that the changed code does not have
     passed   proved: the contract lets it through, or it means the same
-    unread   not a program of the language (a wrong type, an overflowing constant); shows nothing
+    unread   not a program or definition of the language (a wrong type, an overflowing constant); shows nothing
+    late     no answer in time; shows nothing
 """
 
 import argparse
+import os
 import re
 import shutil
+import signal
 import subprocess
 import sys
 from collections import Counter
@@ -98,19 +101,30 @@ def check_all(copy: Path, crates: list[str]) -> tuple[str, str]:
 def check(copy: Path, crate: str) -> tuple[str, str]:
     """The verdict on the crate as it stands, and the first error."""
     try:
-        run = subprocess.run(
-            ["rt", "dev", crate], cwd=copy, capture_output=True, text=True, timeout=LIMIT_SECONDS
-        )
+        status, said = run_prover(copy, crate)
     except subprocess.TimeoutExpired:
-        return "fact", f"no proof within {LIMIT_SECONDS} s"
-    if run.returncode == 0:
+        return "late", f"no answer within {LIMIT_SECONDS} s"
+    if status == 0:
         return "passed", ""
-    said = run.stdout + run.stderr
     first = next((line for line in said.splitlines() if "error" in line), said.strip()[-200:])
     place = re.sub(r"^.*?/crates/", "", first)[:200]
-    if not re.search(r"^fn .*: not proved|^fn .*: no proof", said, re.M):
+    if not re.search(r"^logic=not-proved", said, re.M) or place.startswith(f"{crate}/specs/"):
         return "unread", place
     return ("form" if FORM.search(first) else "fact"), place
+
+
+def run_prover(copy: Path, crate: str) -> tuple[int, str]:
+    """Exit status and output. Nothing that was started is left behind, whatever ends the wait."""
+    pipe = subprocess.PIPE
+    with subprocess.Popen(
+        ["rt", "dev", crate], cwd=copy, stdout=pipe, stderr=pipe, text=True, start_new_session=True
+    ) as run:
+        try:
+            said = run.communicate(timeout=LIMIT_SECONDS)
+        except BaseException:
+            os.killpg(run.pid, signal.SIGKILL)
+            raise
+    return run.returncode, "".join(said)
 
 
 def line_of(verdict: str, file: str, mutant: Mutant, error: str) -> str:

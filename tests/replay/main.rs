@@ -3,6 +3,7 @@
 //!
 //! Arguments: the program, how many histories, the seed.
 
+#[path = "../shared/child.rs"]
 mod child;
 #[path = "../reference/frame.rs"]
 #[allow(dead_code)]
@@ -10,7 +11,7 @@ mod frame;
 mod histories;
 #[path = "../reference/program.rs"]
 mod program;
-#[path = "../differential/random.rs"]
+#[path = "../shared/random.rs"]
 mod random;
 mod sights;
 
@@ -30,6 +31,10 @@ fn main() -> ExitCode {
         eprintln!("COUNT and SEED are numbers");
         return ExitCode::from(2);
     };
+    if count == 0 {
+        eprintln!("no history, no test");
+        return ExitCode::from(2);
+    }
     let workers = thread::available_parallelism().map_or(1, |n| n.get() as u64);
     let runs: Vec<_> = (0..workers)
         .map(|worker| {

@@ -17,21 +17,24 @@ if ! command -v "$valgrind" >/dev/null; then
 fi
 check=("$valgrind" --quiet --error-exitcode=9 --leak-check=full)
 
+# checked NAME PROGRAM: a program that runs this one under valgrind, for the tests that are given one.
+checked() {
+    local path=$folder/$1_under_valgrind
+    printf '#!/bin/sh\nexec %s %s "$@"\n' "${check[*]}" "$2" >"$path"
+    chmod +x "$path"
+    echo "$path"
+}
+
 for test in "$@"; do
     "${check[@]}" "$folder/$test"
 done
 "${check[@]}" --trace-children=yes "$folder/serial" "$folder/display"
-"${check[@]}" "$folder/display" examples/captures/line.capture | diff -u examples/captures/line.expected -
-"${check[@]}" "$folder/display" <examples/captures/line.capture | diff -u examples/captures/line.expected -
-echo "example: the capture gives its expected lines"
+tests/example/run.sh "$(checked display "$folder/display")" examples/captures/line.{capture,expected}
 "${check[@]}" "$folder/differential" 1
 "${check[@]}" "$ash" <crates/ash_cases/stdin | diff -u crates/ash_cases/stdout -
 echo "ash: the stored cases give their stored answers"
 
-# For the tests that are given a program.
-checked=$folder/replay_under_valgrind
-printf '#!/bin/sh\nexec %s %s\n' "${check[*]}" "$replay" >"$checked"
-chmod +x "$checked"
-tests/histories/run.sh "$checked" examples/histories
-"$folder/replay_test" "$checked" "$histories" 1
+replay_checked=$(checked replay "$replay")
+tests/histories/run.sh "$replay_checked" examples/histories
+"$folder/replay_test" "$replay_checked" "$histories" 1
 echo "valgrind: no errors"

@@ -27,7 +27,7 @@ fn main() -> ExitCode {
         .read_to_end(&mut input)
         .map_err(|error| error.to_string())
         .and_then(|_| turn(&input))
-        .and_then(|output| io::stdout().write_all(&output).map_err(|error| error.to_string()));
+        .and_then(|output| print(&output).map_err(|error| error.to_string()));
     match turned {
         Ok(()) => ExitCode::SUCCESS,
         Err(fault) => {
@@ -35,4 +35,12 @@ fn main() -> ExitCode {
             ExitCode::FAILURE
         }
     }
+}
+
+/// Standard output keeps bytes back, and what it could not write at the end of the program is told to
+/// nobody: so it is flushed here.
+fn print(output: &[u8]) -> io::Result<()> {
+    let mut stdout = io::stdout();
+    stdout.write_all(output)?;
+    stdout.flush()
 }

@@ -4,7 +4,7 @@ use mathlib.Core.Path.{_≡_, refl, ap, _∙_}
 use mathlib.Core.Bool.{Bool, true, false, cond}
 use mathlib.Core.List.{List, [], _∷_, _++_}
 use mathlib.Core.Option.{some}
-use Prim.Native.Nat.{ℕ, _+_, _*_, _≤_}
+use Prim.Native.Nat.{ℕ, _+_, _≤_}
 use native.Mathlib.Omega.{arith}
 use lib.Dec.{leb}
 use lib.ListN.{length, take, getD, length-append}
@@ -12,7 +12,8 @@ use lib.Seq.{take-append-seam, drop-append-seam}
 use borrow.Author.Tests.{le-leb, leb-true}
 use Rattle.refusals.specs.Numbers.{badName, badFragment}
 use Rattle.slices.proofs.Impossible.{impossible}
-use Rattle.slices.specs.HighFirst.{pairOf}
+use Rattle.slices.specs.HighFirst.{wordOf, pairOf}
+use Rattle.slices.proofs.HighFirstLaws.{word-back, pair-back}
 use Rattle.slices.specs.Put.{putAt}
 use Rattle.slices.proofs.PutLaws.{put-told}
 use Rattle.slices.proofs.Lent.{Slice}
@@ -45,7 +46,7 @@ items-back (item ∷ items) =
 pub packet-back : (p : Packet) → eofsEmpty (p .items) ≡ true → packetOf (packetBytes p) ≡ packet p
 unfolding packetOf packetBytes isData itemsOf ifEofsEmpty withItems
 packet-back p empty =
-    let id : pairOf (getD (packetBytes p) 2 0) (getD (packetBytes p) 3 0) ≡ p .id = omega arith in
+    let id : pairOf (getD (packetBytes p) 2 0) (getD (packetBytes p) 3 0) ≡ p .id = pair-back (p .id) in
     let long : leb 4 (length (packetBytes p)) ≡ true = le-leb 4 (length (packetBytes p)) (omega arith) in
     let head : isData (packetBytes p) ≡ true = rw long in
     rw (head, id, items-back (p .items), empty)
@@ -133,12 +134,7 @@ module _ (id : ℕ) (before : List ℕ) (answer : Written) (after : List ℕ) wh
       → Writes (wrote (packetBytes (stopPacket id))) before after answer
   stop-writes room c = rw (stop-fits id (length before) room) at (stop-was-written c)
 
--- a number's bytes, high byte first
-abbrev pub highFirst : ℕ → List ℕ → ℕ
-highFirst sum [] = sum
-highFirst sum (byte ∷ bytes) = highFirst (sum * 256 + byte) bytes
-
 -- the four bytes of an Offset item are the offset, high byte first
-pub offset-back : (offset : ℕ) → highFirst 0 (offsetItem offset .value) ≡ offset
+pub offset-back : (offset : ℕ) → wordOf (offsetItem offset .value) ≡ offset
 unfolding offsetItem
-offset-back offset = omega arith
+offset-back offset = word-back 3 offset

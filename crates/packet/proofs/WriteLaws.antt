@@ -2,17 +2,21 @@
 -- strings joined.
 use mathlib.Core.Path.{_≡_, sym, ap, _∙_}
 use mathlib.Core.Bool.{true}
-use mathlib.Core.List.{List, [], _++_}
-use Prim.Native.Nat.{ℕ, _+_, _≤_, _<_}
+use mathlib.Core.List.{List, [], _∷_, _++_}
+use Prim.Native.Nat.{ℕ, _+_, _/_, _%_, _≤_, _<_}
 use native.Mathlib.Omega.{arith}
 use lib.ListN.{length, length-append}
 use borrow.Author.Tests.{le-leb, lt-leb}
 use Rattle.slices.specs.Put.{putAt}
+use Rattle.slices.proofs.HighFirstLaws.{four-bytes}
 use Rattle.slices.proofs.PutLaws.{put-append}
+use Rattle.packet.specs.Items.{itemBytes, itemsBytes}
 use Rattle.packet.specs.Packet.{withHead, packetBytes}
 use Rattle.packet.specs.Names.{validName, validLocation}
-use Rattle.packet.specs.Requests.{Output, wrote, refusedBy, fitted, answerOf, bytesOf, Writes, getPacket, filePacket, fetchedPacket, stopPacket, propertyGet, fileRequest, fetchedRequest, stopRequest}
+use Rattle.packet.specs.Requests.{Output, wrote, refusedBy, fitted, answerOf, bytesOf, Writes, locationItem, offsetItem, offsetItems, getPacket, filePacket, fetchedPacket, stopPacket, propertyGet, fileRequest, fetchedRequest, stopRequest}
+use Rattle.packet.specs.WriterSteps.{locatedRequest}
 use Rattle.packet.specs.declared.requests.Offset.{Offset}
+use Rattle.packet.specs.declared.requests.Offset.the-variants.{Given}
 use Rattle.packet.specs.declared.requests.Written.the-variants.{Length, Refused}
 
 -- a refusal answers its number and changes nothing
@@ -60,6 +64,13 @@ module _ (opcode id : ℕ) (front value further : List ℕ) where
       let p₃ : d₃ ≡ putAt d 0 (withHead opcode id (front ++ value)) = e₃ ∙ ap (λ (l : List ℕ). putAt l (4 + length front) value) p₂ ∙ rw (← second) (put-append d 0 (withHead opcode id front) value) in
       let p₄ : d₄ ≡ putAt d 0 (withHead opcode id (front ++ value ++ further)) = e₄ ∙ ap (λ (l : List ℕ). putAt l (4 + length front + length value) further) p₃ ∙ rw (← third) (put-append d 0 (withHead opcode id (front ++ value)) further) in
       writes-bytes _ (withHead opcode id (front ++ value ++ further)) d d₄ _ (rw (le-leb (length (withHead opcode id (front ++ value ++ further))) (length d) room)) (sym size) p₄
+
+-- the offset of a file request, byte by byte
+pub file-given : (id : ℕ) (location : List ℕ) (place room : ℕ) →
+    locatedRequest 0x0a id location (0x11 ∷ 4 ∷ place / 0x1000000 ∷ place / 0x10000 % 256 ∷ place / 0x100 % 256 ∷ place % 256 ∷ []) room
+    ≡ fileRequest id location (Given place) room
+unfolding fileRequest locatedRequest packetBytes itemsBytes itemBytes filePacket locationItem offsetItem offsetItems
+file-given id location place room = rw (four-bytes place)
 
 -- with room the packet is written
 fits : (bytes : List ℕ) (room : ℕ) → length bytes ≤ room → fitted room bytes ≡ wrote bytes

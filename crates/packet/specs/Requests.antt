@@ -1,11 +1,12 @@
 -- 01, Items and packets: the four requests, what each writes into a lent output and what it answers.
-use Prim.Native.Nat.{ℕ, _/_, _%_}
+use Prim.Native.Nat.{ℕ}
 use mathlib.Core.Path.{_≡_}
 use mathlib.Core.Bool.{cond}
 use mathlib.Core.List.{List, [], _∷_}
 use lib.Dec.{leb}
 use lib.ListN.{length}
 use Rattle.refusals.specs.Numbers.{shortOutput, badName, badFragment}
+use Rattle.slices.specs.HighFirst.{highFirst}
 use Rattle.slices.specs.Put.{putAt}
 use Rattle.packet.specs.Items.{Item}
 use Rattle.packet.specs.Packet.{Packet, packetBytes}
@@ -43,8 +44,7 @@ unfoldable pub nameItem : List ℕ → Item
 nameItem name = record { kind = 0x01; value = name }
 
 unfoldable pub offsetItem : ℕ → Item
-offsetItem offset =
-    record { kind = 0x11; value = offset / 0x1000000 ∷ offset / 0x10000 % 256 ∷ offset / 0x100 % 256 ∷ offset % 256 ∷ [] }
+offsetItem offset = record { kind = 0x11; value = highFirst 4 offset }
 
 unfoldable pub locationItem : List ℕ → Item
 locationItem location = record { kind = 0x13; value = location }

@@ -1,4 +1,5 @@
 pub mod EachLaws
+pub mod HighFirstLaws
 pub mod Impossible
 pub mod Lent
 pub mod PartLaws

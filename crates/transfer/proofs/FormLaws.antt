@@ -1,5 +1,5 @@
 -- The laws of a fragment's form, one for each way through the code: what the tests on the way say of the items settles it.
-use mathlib.Core.Path.{_≡_, refl}
+use mathlib.Core.Path.{_≡_, ap}
 use mathlib.Core.Bool.{true, false}
 use mathlib.Core.List.{List, [], _∷_}
 use Prim.Native.Nat.{ℕ, _+_, _*_, _≤_, _<_}
@@ -7,7 +7,7 @@ use native.Mathlib.Omega.{arith}
 use lib.Dec.{eqb}
 use lib.ListN.{length, getD}
 use borrow.Author.Tests.{eq-eqb, ne-eqb, lt-ltb, le-ltb, le-leb, lt-leb}
-use Rattle.slices.specs.HighFirst.{pairOf}
+use Rattle.slices.specs.HighFirst.{wordOf, pairOf}
 use Rattle.packet.specs.Items.{Item, eofKind, countOf, valueIn}
 use Rattle.transfer.specs.Fragment.{binaryKind, offsetKind, lengthKind, locationKind, numberOf, rightItems, isLast, rightBinary, rightLocation, declaring, formAt, formOf}
 use Rattle.transfer.specs.declared.state.Declared.the-variants.{Unknown}
@@ -18,14 +18,14 @@ use Rattle.transfer.specs.declared.fragment.Form.the-variants.{Good, Bad
 pub number-one : (bytes : List ℕ) → length bytes ≡ 1 → numberOf bytes ≡ Is (getD bytes 0 0)
 unfolding numberOf
 number-one [] h = absurd (omega arith)
-number-one (a ∷ []) h = refl
+number-one (a ∷ []) h = let word : wordOf (a ∷ []) ≡ a = omega arith in ap Is word
 number-one (a ∷ b ∷ more) h = absurd (omega arith)
 
 pub number-two : (bytes : List ℕ) → length bytes ≡ 2 → numberOf bytes ≡ Is (pairOf (getD bytes 0 0) (getD bytes 1 0))
 unfolding numberOf
 number-two [] h = absurd (omega arith)
 number-two (a ∷ []) h = absurd (omega arith)
-number-two (a ∷ b ∷ []) h = refl
+number-two (a ∷ b ∷ []) h = let word : wordOf (a ∷ b ∷ []) ≡ pairOf a b = omega arith in ap Is word
 number-two (a ∷ b ∷ c ∷ more) h = absurd (omega arith)
 
 pub number-four : (bytes : List ℕ) → length bytes ≡ 4 → numberOf bytes ≡ Is (pairOf (getD bytes 0 0) (getD bytes 1 0) * 65536 + pairOf (getD bytes 2 0) (getD bytes 3 0))
@@ -34,17 +34,15 @@ number-four [] h = absurd (omega arith)
 number-four (a ∷ []) h = absurd (omega arith)
 number-four (a ∷ b ∷ []) h = absurd (omega arith)
 number-four (a ∷ b ∷ c ∷ []) h = absurd (omega arith)
-number-four (a ∷ b ∷ c ∷ d ∷ []) h = refl
+number-four (a ∷ b ∷ c ∷ d ∷ []) h =
+    let word : wordOf (a ∷ b ∷ c ∷ d ∷ []) ≡ pairOf a b * 65536 + pairOf c d = omega arith in
+    ap Is word
 number-four (a ∷ b ∷ c ∷ d ∷ e ∷ more) h = absurd (omega arith)
 
 pub number-none : (bytes : List ℕ) → (length bytes ≡ 1 → ⊥) → (length bytes ≡ 2 → ⊥) → (length bytes ≡ 4 → ⊥) → numberOf bytes ≡ NoNumber
 unfolding numberOf
-number-none [] one two four = refl
-number-none (a ∷ []) one two four = absurd (one refl)
-number-none (a ∷ b ∷ []) one two four = absurd (two refl)
-number-none (a ∷ b ∷ c ∷ []) one two four = refl
-number-none (a ∷ b ∷ c ∷ d ∷ []) one two four = absurd (four refl)
-number-none (a ∷ b ∷ c ∷ d ∷ e ∷ more) one two four = refl
+number-none bytes one two four =
+    rw (ne-eqb (length bytes) 1 one, ne-eqb (length bytes) 2 two, ne-eqb (length bytes) 4 four)
 
 module _ (items : List Item) where
   -- the counts of the kinds, tested in their order

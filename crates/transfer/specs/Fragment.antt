@@ -1,10 +1,10 @@
 -- 01, File fragments: what a packet's items say as a fragment, and when they have a good form.
-use Prim.Native.Nat.{ℕ, _+_, _*_}
+use Prim.Native.Nat.{ℕ, _+_}
 use mathlib.Core.Bool.{Bool, cond, _&&_, _||_}
-use mathlib.Core.List.{List, [], _∷_}
+use mathlib.Core.List.{List}
 use lib.Dec.{leb, ltb, eqb}
 use lib.ListN.{length}
-use Rattle.slices.specs.HighFirst.{pairOf}
+use Rattle.slices.specs.HighFirst.{wordOf}
 use Rattle.packet.specs.Items.{Item, eofKind, countOf, valueIn}
 use Rattle.packet.specs.Names.{validLocation}
 use Rattle.transfer.specs.declared.state.Declared.the-variants.{Unknown, Known}
@@ -28,12 +28,8 @@ locationKind = 0x13
 
 -- 01, File fragments: Offset and Length are unsigned, 1, 2 or 4 bytes. The high byte is first, as in all of 01.
 unfoldable pub numberOf : List ℕ → Number
-numberOf [] = NoNumber
-numberOf (a ∷ []) = Is a
-numberOf (a ∷ b ∷ []) = Is (pairOf a b)
-numberOf (a ∷ b ∷ c ∷ []) = NoNumber
-numberOf (a ∷ b ∷ c ∷ d ∷ []) = Is (pairOf a b * 65536 + pairOf c d)
-numberOf (a ∷ b ∷ c ∷ d ∷ e ∷ more) = NoNumber
+numberOf bytes =
+    cond (eqb (length bytes) 1 || eqb (length bytes) 2 || eqb (length bytes) 4) (Is (wordOf bytes)) NoNumber
 
 -- 01, File fragments: exactly one Location, one Offset, one Binary, at most one Length and at most one EOF, in any order,
 -- and nothing else: these are all the items

@@ -1,6 +1,6 @@
 -- 01, Items and packets: "Value types: Integer (02) and Cents (16) of 1, 2, 4 or 8 bytes, signed, high byte first; Boolean
 -- (0f) of one byte, 0 or 1. Others, 03 among them, are refusal 13."
-use Prim.Native.Nat.{ℕ, _+_, _*_, _^_, _<_}
+use Prim.Native.Nat.{ℕ, _*_, _^_, _<_}
 use mathlib.Core.Path.{_≡_}
 use mathlib.Core.Bool.{cond, _||_}
 use mathlib.Core.List.{List, [], _∷_}
@@ -8,17 +8,9 @@ use mathlib.Core.Option.{Option, some, none}
 use lib.Dec.{eqb, ltb}
 use lib.IntN.{ℤ, pos, _-ℤ_}
 use lib.ListN.{length}
+use Rattle.slices.specs.HighFirst.{wordOf}
 use Rattle.value.specs.declared.Value.{Value}
 use Rattle.value.specs.declared.Value.the-variants.{Number, Bad}
-
--- the bytes behind those that gave sum: the high byte first, so each byte makes what stands before it 256 times as much
-abbrev pub wordFrom : ℕ → List ℕ → ℕ
-wordFrom sum [] = sum
-wordFrom sum (byte ∷ bytes) = wordFrom (sum * 256 + byte) bytes
-
--- the bytes as one number without a sign
-abbrev pub wordOf : List ℕ → ℕ
-wordOf bytes = wordFrom 0 bytes
 
 -- two's complement: of the full count of words the lower half are themselves, the upper half are less by the full count
 abbrev pub twos : ℕ → ℕ → ℤ

@@ -15,11 +15,11 @@ pub use reading::find;
 pub use reading::read_packet;
 pub use reading::value;
 pub use requests::Offset;
-pub use requests::Written;
 pub use requests::fetched;
 pub use requests::file_request;
 pub use requests::property_get;
 pub use requests::stop;
+pub use slices::Written;
 
 // A data packet's first byte.
 const DATA: u8 = 1;

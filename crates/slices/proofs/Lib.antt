@@ -6,3 +6,4 @@ pub mod PartLaws
 pub mod PutLaws
 pub mod SameLaws
 pub mod TestLaws
+pub mod WrittenLaws

@@ -11,6 +11,7 @@ use Rattle.slices.specs.declared.Written.the-variants.{Length, Refused}
 use Rattle.slices.proofs.WrittenLaws.{too-little-room, room-enough, refuses, writes}
 use Rattle.slices.proofs.HighFirstLaws.{four-bytes}
 use Rattle.slices.proofs.PutLaws.{put-append}
+use Rattle.packet.specs.ItemTypes.{offsetKind}
 use Rattle.packet.specs.Items.{itemBytes, itemsBytes}
 use Rattle.packet.specs.Packet.{withHead, packetBytes}
 use Rattle.packet.specs.Names.{validName, validLocation}
@@ -50,7 +51,7 @@ module _ (opcode id : ℕ) (front value further : List ℕ) where
 
 -- the offset of a file request, byte by byte
 pub file-given : (id : ℕ) (location : List ℕ) (place room : ℕ) →
-    locatedRequest 0x0a id location (0x11 ∷ 4 ∷ place / 0x1000000 ∷ place / 0x10000 % 256 ∷ place / 0x100 % 256 ∷ place % 256 ∷ []) room
+    locatedRequest 0x0a id location (offsetKind ∷ 4 ∷ place / 0x1000000 ∷ place / 0x10000 % 256 ∷ place / 0x100 % 256 ∷ place % 256 ∷ []) room
     ≡ fileRequest id location (Given place) room
 unfolding fileRequest locatedRequest packetBytes itemsBytes itemBytes filePacket locationItem offsetItem offsetItems
 file-given id location place room = rw (four-bytes place)

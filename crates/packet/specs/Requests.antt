@@ -5,21 +5,22 @@ use mathlib.Core.List.{List, [], _∷_}
 use Rattle.refusals.specs.Numbers.{badName, badFragment}
 use Rattle.slices.specs.HighFirst.{highFirst}
 use Rattle.slices.specs.Written.{Output, refused, fitted}
+use Rattle.packet.specs.ItemTypes.{nameKind, offsetKind, locationKind}
 use Rattle.packet.specs.Items.{Item}
 use Rattle.packet.specs.Packet.{Packet, packetBytes}
 use Rattle.packet.specs.Names.{validName, validLocation}
 use Rattle.packet.specs.declared.requests.Offset.{Offset}
 use Rattle.packet.specs.declared.requests.Offset.the-variants.{Given, Omitted}
 
--- 01, Items and packets: Name (01), Offset (11) in four bytes, high byte first, Location (13)
+-- 01, Items and packets: a Name, an Offset in four bytes, high byte first, a Location
 unfoldable pub nameItem : List ℕ → Item
-nameItem name = record { kind = 0x01; value = name }
+nameItem name = record { kind = nameKind; value = name }
 
 unfoldable pub offsetItem : ℕ → Item
-offsetItem offset = record { kind = 0x11; value = highFirst 4 offset }
+offsetItem offset = record { kind = offsetKind; value = highFirst 4 offset }
 
 unfoldable pub locationItem : List ℕ → Item
-locationItem location = record { kind = 0x13; value = location }
+locationItem location = record { kind = locationKind; value = location }
 
 -- an Offset item if one is wanted
 unfoldable pub offsetItems : Offset → List Item

@@ -5,6 +5,7 @@ use mathlib.Core.List.{List, _∷_, _++_}
 use lib.ListN.{length}
 use Rattle.refusals.specs.Numbers.{badFragment}
 use Rattle.slices.specs.Written.{Output, refused, fitted}
+use Rattle.packet.specs.ItemTypes.{locationKind}
 use Rattle.packet.specs.Packet.{withHead}
 use Rattle.packet.specs.Names.{validLocation}
 
@@ -15,4 +16,4 @@ requestBytes opcode id kind value further = withHead opcode id ((kind ∷ length
 -- the two requests for a file: what both write of the location, and the bytes of the further items
 unfoldable pub locatedRequest : ℕ → ℕ → List ℕ → List ℕ → ℕ → Output
 locatedRequest opcode id location further room =
-    cond (validLocation location) (fitted room (requestBytes opcode id 0x13 location further)) (refused badFragment)
+    cond (validLocation location) (fitted room (requestBytes opcode id locationKind location further)) (refused badFragment)

@@ -1,10 +1,20 @@
 // Items, data packets, names and locations, and the four requests that the display writes.
 mod items;
+mod kinds;
 mod names;
 mod reading;
 mod requests;
 
 pub use items::Found;
+pub use kinds::BINARY_KIND;
+pub use kinds::BOOLEAN_KIND;
+pub use kinds::CENTS_KIND;
+pub use kinds::EOF_KIND;
+pub use kinds::INTEGER_KIND;
+pub use kinds::LENGTH_KIND;
+pub use kinds::LOCATION_KIND;
+pub use kinds::NAME_KIND;
+pub use kinds::OFFSET_KIND;
 pub use names::valid_location;
 pub use names::valid_name;
 pub use reading::Reading;
@@ -26,12 +36,3 @@ const DATA: u8 = 1;
 
 // The bytes before a packet's items: 01, opcode, request id.
 const HEAD_LENGTH: usize = 4;
-
-// An item's type byte is called its kind, since `type` is a keyword.
-pub const NAME_KIND: u8 = 0x01;
-
-pub const OFFSET_KIND: u8 = 0x11;
-
-pub const LOCATION_KIND: u8 = 0x13;
-
-pub const EOF_KIND: u8 = 0x14;

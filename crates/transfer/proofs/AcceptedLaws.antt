@@ -11,10 +11,11 @@ use Rattle.refusals.specs.Numbers.{otherOpcode, otherLocation, wrongOffset, pas
 use Rattle.slices.proofs.Impossible.{impossible}
 use Rattle.slices.specs.Same.{sameBytes}
 use Rattle.slices.proofs.TestLaws.{both, neither}
+use Rattle.packet.specs.ItemTypes.{binaryKind, locationKind}
 use Rattle.packet.specs.Items.{Item, valueIn}
 use Rattle.packet.specs.Packet as judged
 use Rattle.packet.specs.Packet.{Judged, judgedItems}
-use Rattle.transfer.specs.Fragment.{binaryKind, locationKind, Form, good, bad, formOf}
+use Rattle.transfer.specs.Fragment.{Form, good, bad, formOf}
 use Rattle.transfer.specs.Transfer.{fragmentOpcode, Verdict, accepted, refused, locationOf, knownLength, passesLength, isLong, goesOn, endsEarly, judgeEnd, judgeForm, verdictOf}
 use Rattle.transfer.specs.declared.state.Declared.{Declared}
 use Rattle.transfer.specs.declared.state.Declared.the-variants.{Known}

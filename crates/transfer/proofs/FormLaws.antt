@@ -9,8 +9,9 @@ use lib.Dec.{eqb}
 use lib.ListN.{length, getD}
 use borrow.Author.Tests.{eq-eqb, ne-eqb, lt-ltb, le-ltb, le-leb, lt-leb}
 use Rattle.slices.specs.HighFirst.{wordOf, pairOf}
-use Rattle.packet.specs.Items.{Item, eofKind, countOf, valueIn}
-use Rattle.transfer.specs.Fragment.{binaryKind, offsetKind, lengthKind, locationKind, numberOf, rightItems, isLast, rightBinary, rightLocation, good, bad, declaring, formAt, formOf}
+use Rattle.packet.specs.ItemTypes.{binaryKind, offsetKind, lengthKind, locationKind, eofKind}
+use Rattle.packet.specs.Items.{Item, countOf, valueIn}
+use Rattle.transfer.specs.Fragment.{numberOf, rightItems, isLast, rightBinary, rightLocation, good, bad, declaring, formAt, formOf}
 use Rattle.transfer.specs.declared.state.Declared.the-variants.{Unknown}
 
 -- a number by the length of its bytes

@@ -10,12 +10,13 @@ use Rattle.refusals.specs.Numbers.{otherOpcode, otherLocation, wrongOffset}
 use Rattle.slices.proofs.Impossible.{impossible}
 use Rattle.slices.specs.Put.{putAt}
 use Rattle.slices.specs.Same.{sameBytes}
+use Rattle.packet.specs.ItemTypes.{binaryKind, locationKind}
 use Rattle.packet.specs.Items.{Item, valueIn}
 use Rattle.packet.specs.Packet as judged
 use Rattle.packet.specs.Packet.{Judged, judgedItems, packetItems}
 use Rattle.packet.specs.Answers as packet-answers
 use Rattle.packet.specs.declared.reading.Reading.the-variants as packet-reading
-use Rattle.transfer.specs.Fragment.{binaryKind, locationKind, good, formOf}
+use Rattle.transfer.specs.Fragment.{good, formOf}
 use Rattle.transfer.specs.Transfer.{fragmentOpcode, accepted, refused, refusedWith, locationOf, knownLength, passesLength, isLong, goesOn, judgeEnd, judgeForm, verdictOf, advanced, outcomeBy, fileBy, verdictFor, Takes}
 use Rattle.transfer.specs.declared.state.Declared.{Declared}
 use Rattle.transfer.specs.declared.state.Transfer.{Transfer}

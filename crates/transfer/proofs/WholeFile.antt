@@ -11,10 +11,10 @@ use Rattle.refusals.specs.Numbers.{badFragment}
 use Rattle.slices.proofs.Impossible.{impossible}
 use Rattle.slices.specs.Put.{putAt}
 use Rattle.slices.proofs.PutLaws.{put-append, put-first, put-beyond, length-put}
+use Rattle.packet.specs.ItemTypes.{binaryKind}
 use Rattle.packet.specs.Items.{valueIn}
 use Rattle.packet.specs.Names.{validLocation}
 use Rattle.packet.specs.Packet.{packetOf, packetItems}
-use Rattle.transfer.specs.Fragment.{binaryKind}
 use Rattle.transfer.specs.Transfer.{Verdict, accepted, refused, freshTransfer, refusedWith, startOf, outcomeBy, fileBy, verdictFor, Takes}
 use Rattle.transfer.specs.Calls.{Held, acceptedBytes, started, left}
 use Rattle.transfer.specs.declared.taking.Answer.the-variants as answer

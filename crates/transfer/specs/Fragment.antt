@@ -6,23 +6,11 @@ use mathlib.Core.Option.{Option, none, some}
 use lib.Dec.{leb, ltb, eqb}
 use lib.ListN.{length}
 use Rattle.slices.specs.HighFirst.{wordOf}
-use Rattle.packet.specs.Items.{Item, eofKind, countOf, valueIn}
+use Rattle.packet.specs.ItemTypes.{binaryKind, offsetKind, lengthKind, locationKind, eofKind}
+use Rattle.packet.specs.Items.{Item, countOf, valueIn}
 use Rattle.packet.specs.Names.{validLocation}
 use Rattle.transfer.specs.declared.state.Declared.{Declared}
 use Rattle.transfer.specs.declared.state.Declared.the-variants.{Unknown, Known}
-
--- 01, File fragments: Binary (04), Length (12); Items and packets: Offset (11), Location (13)
-abbrev pub binaryKind : ℕ
-binaryKind = 0x04
-
-abbrev pub offsetKind : ℕ
-offsetKind = 0x11
-
-abbrev pub lengthKind : ℕ
-lengthKind = 0x12
-
-abbrev pub locationKind : ℕ
-locationKind = 0x13
 
 -- 01, File fragments: Offset and Length are unsigned, 1, 2 or 4 bytes. The high byte is first, as in all of 01.
 unfoldable pub numberOf : List ℕ → Option ℕ

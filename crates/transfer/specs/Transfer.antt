@@ -8,11 +8,12 @@ use lib.ListN.{length, take, replicate}
 use Rattle.refusals.specs.Numbers.{otherOpcode, otherLocation, wrongOffset, pastLength, earlyEnd, badFragment}
 use Rattle.slices.specs.Put.{putAt}
 use Rattle.slices.specs.Same.{sameBytes}
+use Rattle.packet.specs.ItemTypes.{binaryKind, locationKind}
 use Rattle.packet.specs.Items.{Item, valueIn}
 use Rattle.packet.specs.Names.{validLocation}
 use Rattle.packet.specs.Packet as judged
 use Rattle.packet.specs.Packet.{Judged, packetOf, packetItems}
-use Rattle.transfer.specs.Fragment.{binaryKind, locationKind, Form, good, bad, formOf}
+use Rattle.transfer.specs.Fragment.{Form, good, bad, formOf}
 use Rattle.transfer.specs.declared.state.Declared.{Declared}
 use Rattle.transfer.specs.declared.state.Declared.the-variants.{Unknown, Known}
 use Rattle.transfer.specs.declared.state.Transfer.{Transfer}

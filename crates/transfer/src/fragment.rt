@@ -5,17 +5,14 @@ ghost use Rattle.packet.specs.Packet.{packetItems};
 ghost use Rattle.transfer.specs.Fragment.{numberOf, rightItems, isLast, rightBinary, formAt, formOf};
 ghost use Rattle.transfer.specs.Steps.{asNumber, asForm};
 use crate::state::Declared;
+use packet::BINARY_KIND;
 use packet::EOF_KIND;
+use packet::LENGTH_KIND;
 use packet::LOCATION_KIND;
 use packet::OFFSET_KIND;
 use packet::count;
 use packet::value;
 use slices::pair;
-
-// An item's type byte is called its kind, since `type` is a keyword.
-pub const BINARY_KIND: u8 = 0x04;
-
-pub const LENGTH_KIND: u8 = 0x12;
 
 // What the bytes of an Offset or a Length say.
 enum Number {

@@ -9,6 +9,7 @@ use lib.Dec.{eqb, ltb}
 use lib.IntN.{ℤ, pos, _-ℤ_}
 use lib.ListN.{length}
 use Rattle.slices.specs.HighFirst.{wordOf}
+use Rattle.packet.specs.ItemTypes.{integerKind, booleanKind, centsKind}
 use Rattle.value.specs.declared.Value.{Value}
 use Rattle.value.specs.declared.Value.the-variants.{Number, Bad}
 
@@ -32,7 +33,8 @@ booleanOf (byte ∷ next ∷ bytes) = none
 
 -- the value of an item of type kind, none where that is no good value
 unfoldable pub valueOf : ℕ → List ℕ → Option ℤ
-valueOf kind bytes = cond (eqb kind 0x02 || eqb kind 0x16) (numberOf bytes) (cond (eqb kind 0x0f) (booleanOf bytes) none)
+valueOf kind bytes =
+    cond (eqb kind integerKind || eqb kind centsKind) (numberOf bytes) (cond (eqb kind booleanKind) (booleanOf bytes) none)
 
 -- how the code answers a value
 abbrev pub asValue : Option ℤ → Value

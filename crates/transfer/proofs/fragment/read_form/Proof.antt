@@ -5,10 +5,11 @@ use mathlib.Core.List.{List}
 use mathlib.Core.Option.{Option, none, some}
 use Prim.Native.Nat.{ℕ}
 use borrow.Author.Tests.{not-true, not-false}
+use Rattle.packet.specs.ItemTypes.{offsetKind}
 use Rattle.packet.specs.Items.{Item, valueIn}
 use Rattle.packet.specs.Names.{validLocation}
 use Rattle.packet.specs.Packet.{packetItems}
-use Rattle.transfer.specs.Fragment.{offsetKind, numberOf, rightItems, rightLocation, formAt, formOf}
+use Rattle.transfer.specs.Fragment.{numberOf, rightItems, rightLocation, formAt, formOf}
 use Rattle.transfer.specs.Steps.{asNumber, asForm}
 use Rattle.transfer.proofs.FormLaws.{form-items, form-location, form-binary, form-at}
 use Rattle.transfer.proofs.StepLaws.{number-told, no-number-told}

@@ -4,9 +4,10 @@ use mathlib.Core.Path.{_≡_, sym, ap, _∙_}
 use mathlib.Core.List.{List}
 use mathlib.Core.Option.{Option, none, some}
 use Prim.Native.Nat.{ℕ}
+use Rattle.packet.specs.ItemTypes.{lengthKind}
 use Rattle.packet.specs.Items.{Item, valueIn}
 use Rattle.packet.specs.Packet.{packetItems}
-use Rattle.transfer.specs.Fragment.{lengthKind, numberOf, isLast, declaring, formAt}
+use Rattle.transfer.specs.Fragment.{numberOf, isLast, declaring, formAt}
 use Rattle.transfer.specs.Steps.{asNumber, asForm}
 use Rattle.transfer.proofs.FormLaws.{at-undeclared, at-late, at-declared}
 use Rattle.transfer.proofs.StepLaws.{number-told, no-number-told}

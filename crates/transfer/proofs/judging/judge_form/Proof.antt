@@ -7,9 +7,10 @@ use Prim.Native.Nat.{ℕ}
 use lib.ListN.{length}
 use borrow.Author.Tests.{not-true, not-false}
 use Rattle.slices.specs.Same.{sameBytes}
+use Rattle.packet.specs.ItemTypes.{binaryKind, locationKind}
 use Rattle.packet.specs.Items.{Item, valueIn}
 use Rattle.packet.specs.Packet.{packetItems}
-use Rattle.transfer.specs.Fragment.{binaryKind, locationKind, good}
+use Rattle.transfer.specs.Fragment.{good}
 use Rattle.transfer.specs.Transfer.{Verdict, locationOf, judgeEnd, judgeForm}
 use Rattle.transfer.specs.Steps.{formBy, asVerdict}
 use Rattle.transfer.specs.declared.fragment.Form.{Form}

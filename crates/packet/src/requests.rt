@@ -1,6 +1,5 @@
 // The four requests that the display writes.
 ghost use mathlib.Core.List.{_++_};
-ghost use mathlib.Core.Path.{_≡_};
 ghost use Prim.Native.Nat.{_+_, _<_};
 ghost use lib.ListN.{length};
 ghost use Rattle.slices.specs.Written.{fitted, WritesAs};

@@ -5,6 +5,7 @@ use mathlib.Core.List.{List, [], _∷_, _++_}
 use Prim.Native.Nat.{ℕ, _+_, _/_, _%_, _≤_, _<_}
 use native.Mathlib.Omega.{arith}
 use lib.ListN.{length, length-append}
+use Rattle.refusals.specs.Numbers.{shortOutput}
 use Rattle.slices.specs.Put.{putAt}
 use Rattle.slices.specs.Written.{written, fitted, WritesAs}
 use Rattle.slices.specs.declared.Written.the-variants.{Length, Refused}
@@ -28,8 +29,8 @@ module _ (opcode id : ℕ) (front value further : List ℕ) where
       omega arith
 
   -- too little room for the packet
-  pub packet-short : (d : List ℕ) → length d < 4 + length front + length value + length further → WritesAs (fitted (length d) (withHead opcode id (front ++ value ++ further))) d (Refused 7) d
-  packet-short d h = refuses _ 7 d (too-little-room (length d) (withHead opcode id (front ++ value ++ further)) _ packet-length h)
+  pub packet-short : (d : List ℕ) → length d < 4 + length front + length value + length further → WritesAs (fitted (length d) (withHead opcode id (front ++ value ++ further))) d (Refused shortOutput) d
+  packet-short d h = refuses _ shortOutput d (too-little-room (length d) (withHead opcode id (front ++ value ++ further)) _ packet-length h)
 
   -- the packet put part by part
   pub packet-put :

@@ -15,6 +15,7 @@ pub use kinds::LENGTH_KIND;
 pub use kinds::LOCATION_KIND;
 pub use kinds::NAME_KIND;
 pub use kinds::OFFSET_KIND;
+pub use names::LONGEST_LOCATION;
 pub use names::valid_location;
 pub use names::valid_name;
 pub use reading::Reading;

@@ -26,6 +26,9 @@ const FETCHED_OPCODE: u8 = 0x0d;
 
 const STOP_OPCODE: u8 = 0x0e;
 
+// How many bytes an Offset is written in.
+const OFFSET_LENGTH: u8 = 4;
+
 // Whether a file request names the offset to begin at.
 pub enum Offset {
     Given(u32),
@@ -112,7 +115,7 @@ pub fn file_request(id: u16, location: &[u8], offset: Offset, out: &mut [u8]) ->
     let second = (place / 0x10000 % 256) as u8;
     let third = (place / 0x100 % 256) as u8;
     let fourth = (place % 256) as u8;
-    let further = [OFFSET_KIND, 4, first, second, third, fourth];
+    let further = [OFFSET_KIND, OFFSET_LENGTH, first, second, third, fourth];
     write_located(FILE_OPCODE, id, location, &further, out)
 }
 

@@ -10,7 +10,7 @@ use Rattle.slices.specs.Put.{putAt}
 use Rattle.slices.specs.Same.{sameBytes}
 use Rattle.packet.specs.ItemTypes.{binaryKind, locationKind}
 use Rattle.packet.specs.Items.{Item, valueIn}
-use Rattle.packet.specs.Names.{validLocation}
+use Rattle.packet.specs.Names.{longestLocation, validLocation}
 use Rattle.packet.specs.Packet as judged
 use Rattle.packet.specs.Packet.{Judged, packetOf, packetItems}
 use Rattle.transfer.specs.Fragment.{Form, good, bad, formOf}
@@ -19,10 +19,6 @@ use Rattle.transfer.specs.declared.state.Declared.the-variants.{Unknown,
 use Rattle.transfer.specs.declared.state.Transfer.{Transfer}
 use Rattle.transfer.specs.declared.taking.Answer.the-variants as answer
 use Rattle.transfer.specs.declared.taking.Outcome.{Outcome}
-
--- 01, Items and packets: locations have up to 64 bytes
-abbrev pub locationRoom : ℕ
-locationRoom = 64
 
 -- 01, File fragments (opcode 0b)
 abbrev pub fragmentOpcode : ℕ
@@ -33,7 +29,7 @@ fragmentOpcode = 0x0b
 abbrev pub freshTransfer : List ℕ → Transfer
 freshTransfer location =
     record {
-      location = putAt (replicate locationRoom 0) 0 location;
+      location = putAt (replicate longestLocation 0) 0 location;
       length = length location;
       next = 0;
       declared = Unknown;

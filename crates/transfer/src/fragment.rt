@@ -14,6 +14,9 @@ use packet::count;
 use packet::value;
 use slices::pair;
 
+// How many items each fragment has: Location, Offset, Binary.
+const REQUIRED_ITEMS: usize = 3;
+
 // What the bytes of an Offset or a Length say.
 enum Number {
     Is(usize),
@@ -98,7 +101,7 @@ fn right_items(packet: &[u8]) -> bool
         return false;
     }
     let optional = lengths + ends;
-    let known = optional + 3;
+    let known = optional + REQUIRED_ITEMS;
     packet::count_all(packet) == known
 }
 

@@ -8,7 +8,7 @@ use native.Mathlib.Numerals.{add-one}
 use native.Mathlib.Omega.{arith}
 use borrow.Author.Tests.{le-leb, lt-leb, not-true, not-false}
 use lib.ListN.{length, getD, drop}
-use Rattle.packet.specs.Names.{between, isLetter, allNameBytes, validName}
+use Rattle.packet.specs.Names.{between, isLetter, allNameBytes, longestName, validName}
 use Rattle.packet.proofs.NameLaws.{valid-when, byte-passed, byte-refused, bytes-ended}
 use Rattle.packet.proofs.names.valid_name.Statement.{statement}
 use Rattle.packet.proofs.names.valid_name.Tie as tie
@@ -26,14 +26,14 @@ returns c = rw (lt-leb _ _ (c .if1 .taken))
 returns-2 : tie.Need-returns-2 Inv-loop μ-loop
 unfolding validName between
 returns-2 c =
-    let long : 27 < length (c .before .before .before .args .name .now) = omega arith in
+    let long : longestName < length (c .before .before .before .args .name .now) = omega arith in
     rw (le-leb _ _ (c .before .if1 .left), lt-leb _ _ long)
 
 -- the name, past the test of its length
 abbrev name : tie.Else2 Inv-loop μ-loop → List ℕ
 name c = c .before .before .before .args .name .now
 
-short : (c : tie.Else2 Inv-loop μ-loop) → length (name c) ≤ 27
+short : (c : tie.Else2 Inv-loop μ-loop) → length (name c) ≤ longestName
 short c = omega arith
 
 shared-slice-read-is-letter : tie.Need-shared-slice-read-is-letter Inv-loop μ-loop

@@ -1,7 +1,6 @@
 -- 01, Items and packets: "Value types: Integer (02) and Cents (16) of 1, 2, 4 or 8 bytes, signed, high byte first; Boolean
 -- (0f) of one byte, 0 or 1. Others, 03 among them, are refusal 13."
-use Prim.Native.Nat.{ℕ, _*_, _^_, _<_}
-use mathlib.Core.Path.{_≡_}
+use Prim.Native.Nat.{ℕ, _*_, _^_}
 use mathlib.Core.Bool.{cond, _||_}
 use mathlib.Core.List.{List, [], _∷_}
 use mathlib.Core.Option.{Option, some, none}
@@ -40,13 +39,3 @@ valueOf kind bytes =
 abbrev pub asValue : Option ℤ → Value
 asValue (some number) = Number number
 asValue none = Bad
-
--- the word of n bytes is that of its bytes, and below 256 ^ n
-pub record Word (bytes : List ℕ) (word : ℕ) : Type 0 where
-  pub is : word ≡ wordOf bytes
-  pub small : word < 256 ^ length bytes
-
--- half of 256 ^ n, from where words of n bytes stand for negative numbers; 0 where no number has n bytes
-abbrev pub leastNegative : ℕ → ℕ
-leastNegative n =
-    cond (eqb n 1) 0x80 (cond (eqb n 2) 0x8000 (cond (eqb n 4) 0x80000000 (cond (eqb n 8) 0x8000000000000000 0)))

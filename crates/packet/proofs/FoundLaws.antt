@@ -4,10 +4,10 @@ use mathlib.Core.Path.{_≡_, refl, sym, ap, _∙_}
 use mathlib.Core.Bool.{Bool, true, false, cond}
 use mathlib.Core.List.{List, [], _∷_, _++_, append-assoc}
 use mathlib.Core.Option.{Option, none, some}
-use Prim.Native.Nat.{ℕ, _+_, _-_, _*_, _≤_}
+use Prim.Native.Nat.{ℕ, _+_, _≤_}
 use native.Mathlib.Omega.{arith}
 use lib.Dec.{eqb}
-use lib.ListN.{length, take, drop, getD, length-append, length-drop, take-append-drop}
+use lib.ListN.{length, take, drop, getD, length-append, take-append-drop}
 use lib.Seq.{take-append-seam, drop-append-add, length-take-le}
 use Rattle.refusals.specs.Numbers.{noDataPacket}
 use Rattle.slices.proofs.Impossible.{impossible}
@@ -17,7 +17,7 @@ use Rattle.packet.specs.Packet.{refused, isData, withItems, packetOf, ju
 use Rattle.packet.specs.Answers.{placed, past, headIn, findIn, behindIn, itemAt}
 use Rattle.packet.specs.declared.items.Found.{Found}
 use Rattle.packet.specs.declared.items.Found.the-variants.{At, Nothing}
-use Rattle.packet.proofs.ItemLaws.{items-fill, items-few}
+use Rattle.packet.proofs.ItemLaws.{items-fill}
 use Rattle.packet.proofs.PacketLaws.{data-length}
 
 -- an answer whose item lies within the bytes and is the one wanted
@@ -113,9 +113,3 @@ module _ (bytes : List ℕ) (kind : ℕ) where
   behind-found-reads =
       packet-items bytes (λ (items : List Item). Reads bytes (behindIn 4 kind items) (behindOf kind items)) (nothing-reads bytes)
       (λ items long e. rw (split bytes items e, length-take-le 4 bytes long) at (behind-reads kind (take 4 bytes) items))
-
--- a packet has at most half as many items as bytes behind its first four: 189 for 383 bytes
-pub packet-few : (bytes : List ℕ) → length (packetItems bytes) * 2 ≤ length bytes - 4
-packet-few bytes =
-    packet-items bytes (λ (items : List Item). length items * 2 ≤ length bytes - 4) (omega arith)
-    (λ items long e. rw (← length-drop 4 bytes) (items-few (drop 4 bytes) items e))

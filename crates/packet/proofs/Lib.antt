@@ -2,7 +2,6 @@ pub mod FoundLaws
 pub mod ItemLaws
 pub mod NameLaws
 pub mod PacketLaws
-pub mod PickLaws
 pub mod RequestCalls
 pub mod ReadBack
 pub mod WalkLaws

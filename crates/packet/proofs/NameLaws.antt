@@ -8,12 +8,12 @@ use lib.ListN.{length, drop, getD, drop-of-length-le}
 use lib.Seq.{drop-cons}
 use borrow.Author.Tests.{le-leb, leb-true}
 use Rattle.slices.proofs.TestLaws.{both}
-use Rattle.packet.specs.Names.{between, isLetter, isNameByte, allNameBytes, validName, validLocation}
+use Rattle.packet.specs.Names.{between, isLetter, isNameByte, allNameBytes, longestName, longestLocation, validName, validLocation}
 
 -- with a good length and a first letter the bytes settle it
-pub valid-when : (name : List ℕ) → 1 ≤ length name → length name ≤ 27 → isLetter (getD name 0 0) ≡ true → validName name ≡ allNameBytes name
+pub valid-when : (name : List ℕ) → 1 ≤ length name → length name ≤ longestName → isLetter (getD name 0 0) ≡ true → validName name ≡ allNameBytes name
 unfolding validName between
-valid-when name some few first = rw (le-leb 1 (length name) some, le-leb (length name) 27 few, first)
+valid-when name some few first = rw (le-leb 1 (length name) some, le-leb (length name) longestName few, first)
 
 module _ (name : List ℕ) (i : ℕ) (h : i < length name) where
   -- a byte that a name may have is passed over
@@ -37,13 +37,13 @@ unfolding between
 within low high n h = let tests = both (leb low n) (leb n high) h in (leb-true low n (tests .first), leb-true n high (tests .second))
 
 -- so a valid name has 1 to 27 bytes, and a valid location 1 to 64
-pub name-size : (name : List ℕ) → validName name ≡ true → (1 ≤ length name) × (length name ≤ 27)
+pub name-size : (name : List ℕ) → validName name ≡ true → (1 ≤ length name) × (length name ≤ longestName)
 unfolding validName
 name-size name h =
-    let size = between 1 27 (length name) in
+    let size = between 1 longestName (length name) in
     let letter = isLetter (getD name 0 0) in
-    within 1 27 (length name) (both size letter (both (size && letter) (allNameBytes name) h .first) .first)
+    within 1 longestName (length name) (both size letter (both (size && letter) (allNameBytes name) h .first) .first)
 
-pub location-size : (location : List ℕ) → validLocation location ≡ true → (1 ≤ length location) × (length location ≤ 64)
+pub location-size : (location : List ℕ) → validLocation location ≡ true → (1 ≤ length location) × (length location ≤ longestLocation)
 unfolding validLocation
-location-size location h = within 1 64 (length location) h
+location-size location h = within 1 longestLocation (length location) h

@@ -7,7 +7,7 @@ use Prim.Native.Nat.{ℕ, _≤_}
 use lib.Dec.{leb, eqb}
 use lib.ListN.{length, getD, drop}
 use borrow.Author.Tests.{leb-true}
-use Rattle.refusals.specs.Numbers.{noDataPacket}
+use Rattle.refusals.specs.Numbers.{noDataPacket, badItems}
 use Rattle.slices.proofs.Impossible.{impossible}
 use Rattle.slices.specs.HighFirst.{pairOf}
 use Rattle.slices.proofs.TestLaws.{both}
@@ -45,7 +45,7 @@ module _ (opcode id kind : ℕ) where
   read-by none e = impossible cc
   read-by (some items) e = refl
 
-  refused-by : (read : Option (List Item)) → tallyOf 4 kind read ≡ Broken → readingOf (withItems opcode id read) ≡ Refused 10
+  refused-by : (read : Option (List Item)) → tallyOf 4 kind read ≡ Broken → readingOf (withItems opcode id read) ≡ Refused badItems
   unfolding tallyOf withItems readingOf
   refused-by none e = refl
   refused-by (some items) e = impossible cc
@@ -61,11 +61,11 @@ module _ (bytes : List ℕ) (kind : ℕ) where
   tally-broken e = broken-by (getD bytes 1 0) (pairOf (getD bytes 2 0) (getD bytes 3 0)) kind (isData bytes) (itemsOf (drop 4 bytes)) e
 
   -- the three answers of the packet reader
-  pub reading-no-data : isData bytes ≡ false → Refused 9 ≡ readingOf (packetOf bytes)
+  pub reading-no-data : isData bytes ≡ false → Refused noDataPacket ≡ readingOf (packetOf bytes)
   unfolding packetOf readingOf
   reading-no-data h = rw h
 
-  pub reading-bad-items : isData bytes ≡ true → packetTally kind bytes ≡ Broken → Refused 10 ≡ readingOf (packetOf bytes)
+  pub reading-bad-items : isData bytes ≡ true → packetTally kind bytes ≡ Broken → Refused badItems ≡ readingOf (packetOf bytes)
   unfolding packetOf packetTally
   reading-bad-items h e =
       let t : tallyOf 4 kind (itemsOf (drop 4 bytes)) ≡ Broken = rw h at e in

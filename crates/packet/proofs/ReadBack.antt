@@ -4,27 +4,29 @@ use mathlib.Core.Path.{_≡_, refl, ap, _∙_}
 use mathlib.Core.Bool.{Bool, true, false, cond}
 use mathlib.Core.List.{List, [], _∷_, _++_}
 use mathlib.Core.Option.{some}
-use Prim.Native.Nat.{ℕ, _+_, _*_, _≤_}
+use Prim.Native.Nat.{ℕ, _+_, _≤_}
 use native.Mathlib.Omega.{arith}
-use lib.Dec.{leb}
+use lib.Dec.{leb, ltb}
 use lib.ListN.{length, take, getD, length-append}
 use lib.Seq.{take-append-seam, drop-append-seam}
-use borrow.Author.Tests.{le-leb, leb-true}
+use borrow.Author.Tests.{le-leb, ltb-false}
 use Rattle.refusals.specs.Numbers.{badName, badFragment}
 use Rattle.slices.proofs.Impossible.{impossible}
-use Rattle.slices.specs.HighFirst.{pairOf}
+use Rattle.slices.specs.HighFirst.{wordOf, pairOf}
+use Rattle.slices.proofs.HighFirstLaws.{word-back, pair-back}
 use Rattle.slices.specs.Put.{putAt}
+use Rattle.slices.specs.Written.{written, refused, fitted, WritesAs}
+use Rattle.slices.specs.declared.Written.{Written}
+use Rattle.slices.specs.declared.Written.the-variants.{Length}
 use Rattle.slices.proofs.PutLaws.{put-told}
 use Rattle.slices.proofs.Lent.{Slice}
 use Rattle.packet.specs.Items.{Item, inFront, emptyIfEof, eofsEmpty, ifEofsEmpty, itemsFilling, itemsOf, itemBytes, itemsBytes, valueIn}
 use Rattle.packet.specs.Packet.{Packet, packet, isData, withItems, packetOf, judgedItems, packetItems, packetBytes}
 use Rattle.packet.specs.Names.{validName, validLocation}
 use Rattle.packet.specs.Answers.{readingOf}
-use Rattle.packet.specs.Requests.{wrote, refusedBy, fitted, answerOf, bytesOf, Writes, nameItem, locationItem, offsetItem, offsetItems, getPacket, filePacket, fetchedPacket, stopPacket, propertyGet, fileRequest, fetchedRequest, stopRequest}
+use Rattle.packet.specs.Requests.{nameItem, locationItem, offsetItem, offsetItems, getPacket, filePacket, fetchedPacket, stopPacket, propertyGet, fileRequest, fetchedRequest, stopRequest}
 use Rattle.packet.specs.declared.requests.Offset.{Offset}
 use Rattle.packet.specs.declared.requests.Offset.the-variants.{Given, Omitted}
-use Rattle.packet.specs.declared.requests.Written.{Written}
-use Rattle.packet.specs.declared.requests.Written.the-variants.{Length}
 use Rattle.packet.specs.declared.reading.Reading.{Reading}
 use Rattle.packet.specs.declared.reading.Reading.the-variants as reading
 use Rattle.packet.proofs.ItemLaws.{items-end, items-rule}
@@ -45,7 +47,7 @@ items-back (item ∷ items) =
 pub packet-back : (p : Packet) → eofsEmpty (p .items) ≡ true → packetOf (packetBytes p) ≡ packet p
 unfolding packetOf packetBytes isData itemsOf ifEofsEmpty withItems
 packet-back p empty =
-    let id : pairOf (getD (packetBytes p) 2 0) (getD (packetBytes p) 3 0) ≡ p .id = omega arith in
+    let id : pairOf (getD (packetBytes p) 2 0) (getD (packetBytes p) 3 0) ≡ p .id = pair-back (p .id) in
     let long : leb 4 (length (packetBytes p)) ≡ true = le-leb 4 (length (packetBytes p)) (omega arith) in
     let head : isData (packetBytes p) ≡ true = rw long in
     rw (head, id, items-back (p .items), empty)
@@ -75,19 +77,19 @@ read-as p bytes e =
 written-back :
     (p : Packet) (t : Bool) (number : ℕ) (out after : List ℕ) (n : ℕ)
     → eofsEmpty (p .items) ≡ true
-    → Writes (cond t (fitted (length out) (packetBytes p)) (refusedBy number)) out after (Length n)
+    → WritesAs (cond t (fitted (length out) (packetBytes p)) (refused number)) out (Length n) after
     → ReadAs p (take n after)
-unfolding fitted answerOf bytesOf
-written-back p false number out after n empty w = let a = w .answered in impossible cc
-written-back p true number out after n empty w = cases (leb (length (packetBytes p)) (length out)) refl
+unfolding fitted
+written-back p false number out after n empty w = let a = w .answers in impossible cc
+written-back p true number out after n empty w = cases (ltb (length out) (length (packetBytes p))) refl
   where
-    cases : (fits : Bool) → leb (length (packetBytes p)) (length out) ≡ fits → ReadAs p (take n after)
-    cases false e = let a = rw e at (w .answered) in impossible cc
-    cases true e =
-        let a : Length n ≡ Length (length (packetBytes p)) = rw e at (w .answered) in
+    cases : (short : Bool) → ltb (length out) (length (packetBytes p)) ≡ short → ReadAs p (take n after)
+    cases true e = let a = rw e at (w .answers) in impossible cc
+    cases false e =
+        let a : Length n ≡ Length (length (packetBytes p)) = rw e at (w .answers) in
         let size : n ≡ length (packetBytes p) = cc in
-        let put : after ≡ putAt out 0 (packetBytes p) = rw e at (w .bytes) in
-        let fits = leb-true (length (packetBytes p)) (length out) e in
+        let put : after ≡ putAt out 0 (packetBytes p) = rw e at (w .put) in
+        let fits = ltb-false (length out) (length (packetBytes p)) e in
         let first : take n after ≡ packetBytes p = put-told out after (packetBytes p) n put size fits in
         read-as p (take n after) (ap packetOf first ∙ packet-back p empty)
 
@@ -117,28 +119,23 @@ module _ (id : ℕ) (before : List ℕ) (n : ℕ) (after : List ℕ) where
 -- THEOREMS. With a valid name or location and room for the packet, every call writes it and answers its length.
 module _ (id : ℕ) (before : List ℕ) (answer : Written) (after : List ℕ) where
   pub property-get-writes : (name : List ℕ) → validName name ≡ true → length (packetBytes (getPacket id name)) ≤ length before
-      → PropertyGetCall id name before answer after → Writes (wrote (packetBytes (getPacket id name))) before after answer
+      → PropertyGetCall id name before answer after → WritesAs (written (packetBytes (getPacket id name))) before answer after
   property-get-writes name valid room c = rw (get-fits id name (length before) valid room) at (get-was-written c)
 
   pub file-request-writes : (location : List ℕ) (offset : Offset) → validLocation location ≡ true
       → length (packetBytes (filePacket id location offset)) ≤ length before
-      → FileRequestCall id location offset before answer after → Writes (wrote (packetBytes (filePacket id location offset))) before after answer
+      → FileRequestCall id location offset before answer after → WritesAs (written (packetBytes (filePacket id location offset))) before answer after
   file-request-writes location offset valid room c = rw (file-fits id location offset (length before) valid room) at (file-was-written c)
 
   pub fetched-writes : (location : List ℕ) → validLocation location ≡ true → length (packetBytes (fetchedPacket id location)) ≤ length before
-      → FetchedCall id location before answer after → Writes (wrote (packetBytes (fetchedPacket id location))) before after answer
+      → FetchedCall id location before answer after → WritesAs (written (packetBytes (fetchedPacket id location))) before answer after
   fetched-writes location valid room c = rw (fetched-fits id location (length before) valid room) at (fetched-was-written c)
 
   pub stop-writes : length (packetBytes (stopPacket id)) ≤ length before → StopCall id before answer after
-      → Writes (wrote (packetBytes (stopPacket id))) before after answer
+      → WritesAs (written (packetBytes (stopPacket id))) before answer after
   stop-writes room c = rw (stop-fits id (length before) room) at (stop-was-written c)
 
--- a number's bytes, high byte first
-abbrev pub highFirst : ℕ → List ℕ → ℕ
-highFirst sum [] = sum
-highFirst sum (byte ∷ bytes) = highFirst (sum * 256 + byte) bytes
-
 -- the four bytes of an Offset item are the offset, high byte first
-pub offset-back : (offset : ℕ) → highFirst 0 (offsetItem offset .value) ≡ offset
+pub offset-back : (offset : ℕ) → wordOf (offsetItem offset .value) ≡ offset
 unfolding offsetItem
-offset-back offset = omega arith
+offset-back offset = word-back 3 offset

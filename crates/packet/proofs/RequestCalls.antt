@@ -6,16 +6,17 @@ use mathlib.Core.List.{List}
 use Prim.Native.Nat.{ℕ, _≤_}
 use lib.ListN.{length}
 use Rattle.slices.specs.Put.{putAt}
+use Rattle.slices.specs.Written.{WritesAs}
+use Rattle.slices.specs.declared.Written.{Written}
+use Rattle.slices.specs.declared.Written.the-variants.{Length}
 use Rattle.slices.proofs.Lent.{Slice, lent, InCall, OutCall, InOutCall, in-call, out-call, in-out-call}
 use Rattle.packet.specs.Items.{valueIn}
 use Rattle.packet.specs.Packet.{packetOf, packetItems, packetBytes}
 use Rattle.packet.specs.Names.{validName, validLocation}
 use Rattle.packet.specs.Answers.{readingOf}
-use Rattle.packet.specs.Requests.{answerOf, bytesOf, Writes, getPacket, filePacket, fetchedPacket, stopPacket, propertyGet, fileRequest, fetchedRequest, stopRequest}
+use Rattle.packet.specs.Requests.{getPacket, filePacket, fetchedPacket, stopPacket, propertyGet, fileRequest, fetchedRequest, stopRequest}
 use Rattle.packet.specs.declared.reading.Reading.{Reading}
 use Rattle.packet.specs.declared.requests.Offset.{Offset}
-use Rattle.packet.specs.declared.requests.Written.{Written}
-use Rattle.packet.specs.declared.requests.Written.the-variants.{Length}
 use Rattle.packet.proofs.WriteLaws.{get-fits, file-fits, fetched-fits, stop-fits}
 use Rattle.packet.proofs.reading.read_packet.Reads as read-packet
 use Rattle.packet.proofs.reading.count_all.Reads as count-all
@@ -59,18 +60,18 @@ pub value-was-read : {kind : ℕ} {bytes : List ℕ} {answer : Slice} → ValueC
 value-was-read c = rw (c .input-lent .holds) at (c .learnt)
 
 module _ {id : ℕ} {before : List ℕ} {answer : Written} {after : List ℕ} where
-  pub get-was-written : {name : List ℕ} → PropertyGetCall id name before answer after → Writes (propertyGet id name (length before)) before after answer
+  pub get-was-written : {name : List ℕ} → PropertyGetCall id name before answer after → WritesAs (propertyGet id name (length before)) before answer after
   get-was-written c = rw (c .input-lent .holds, c .output-lent .holds, c .output-left .holds) at (c .learnt)
 
   pub file-was-written : {location : List ℕ} {offset : Offset} → FileRequestCall id location offset before answer after
-      → Writes (fileRequest id location offset (length before)) before after answer
+      → WritesAs (fileRequest id location offset (length before)) before answer after
   file-was-written c = rw (c .input-lent .holds, c .output-lent .holds, c .output-left .holds) at (c .learnt)
 
   pub fetched-was-written : {location : List ℕ} → FetchedCall id location before answer after
-      → Writes (fetchedRequest id location (length before)) before after answer
+      → WritesAs (fetchedRequest id location (length before)) before answer after
   fetched-was-written c = rw (c .input-lent .holds, c .output-lent .holds, c .output-left .holds) at (c .learnt)
 
-  pub stop-was-written : StopCall id before answer after → Writes (stopRequest id (length before)) before after answer
+  pub stop-was-written : StopCall id before answer after → WritesAs (stopRequest id (length before)) before answer after
   stop-was-written c = rw (c .output-lent .holds, c .output-left .holds) at (c .learnt)
 
 -- there is a call of each reader for all bytes
@@ -87,24 +88,20 @@ every-value-is-read kind bytes = in-call tt refl
 module _ (id : ℕ) (before : List ℕ) where
   pub every-get-is-written : (name : List ℕ) → validName name ≡ true → length (packetBytes (getPacket id name)) ≤ length before
       → PropertyGetCall id name before (Length (length (packetBytes (getPacket id name)))) (putAt before 0 (packetBytes (getPacket id name)))
-  unfolding answerOf bytesOf
   every-get-is-written name valid room =
-      in-out-call tt (rw (get-fits id name (length before) valid room) (record { answered = refl; bytes = refl }))
+      in-out-call tt (rw (get-fits id name (length before) valid room) (record { answers = refl; put = refl }))
 
   pub every-file-request-is-written : (location : List ℕ) (offset : Offset) → validLocation location ≡ true
       → length (packetBytes (filePacket id location offset)) ≤ length before
       → FileRequestCall id location offset before (Length (length (packetBytes (filePacket id location offset)))) (putAt before 0 (packetBytes (filePacket id location offset)))
-  unfolding answerOf bytesOf
   every-file-request-is-written location offset valid room =
-      in-out-call tt (rw (file-fits id location offset (length before) valid room) (record { answered = refl; bytes = refl }))
+      in-out-call tt (rw (file-fits id location offset (length before) valid room) (record { answers = refl; put = refl }))
 
   pub every-fetched-is-written : (location : List ℕ) → validLocation location ≡ true → length (packetBytes (fetchedPacket id location)) ≤ length before
       → FetchedCall id location before (Length (length (packetBytes (fetchedPacket id location)))) (putAt before 0 (packetBytes (fetchedPacket id location)))
-  unfolding answerOf bytesOf
   every-fetched-is-written location valid room =
-      in-out-call tt (rw (fetched-fits id location (length before) valid room) (record { answered = refl; bytes = refl }))
+      in-out-call tt (rw (fetched-fits id location (length before) valid room) (record { answers = refl; put = refl }))
 
   pub every-stop-is-written : length (packetBytes (stopPacket id)) ≤ length before
       → StopCall id before (Length (length (packetBytes (stopPacket id)))) (putAt before 0 (packetBytes (stopPacket id)))
-  unfolding answerOf bytesOf
-  every-stop-is-written room = out-call tt (rw (stop-fits id (length before) room) (record { answered = refl; bytes = refl }))
+  every-stop-is-written room = out-call tt (rw (stop-fits id (length before) room) (record { answers = refl; put = refl }))

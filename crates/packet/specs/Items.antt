@@ -6,9 +6,9 @@ use mathlib.Core.List.{List, [], _∷_, _++_}
 use mathlib.Core.Option.{Option, none, some}
 use lib.Dec.{leb, eqb}
 use lib.ListN.{length, take, drop}
+pub use Rattle.packet.specs.ItemTypes.{eofKind}
 
--- 01, Items and packets: an item is a type byte, a length byte N and N value bytes. The type byte is the item's kind, here
--- and in the code, where `type` is a keyword.
+-- 01, Items and packets: an item is a type byte, a length byte N and N value bytes
 pub record Item : Type 0 where
   pub kind : ℕ
   pub value : List ℕ
@@ -32,11 +32,7 @@ itemsUpTo (suc most) (kind ∷ size ∷ rest) =
 unfoldable pub itemsFilling : List ℕ → Option (List Item)
 itemsFilling bytes = itemsUpTo (length bytes) bytes
 
--- 01, Refusal numbers, 10: an EOF item (14)
-abbrev pub eofKind : ℕ
-eofKind = 0x14
-
--- an item that is no EOF item, or an EOF item of length 0
+-- 01, Refusal numbers, 10: an item that is no EOF item (14), or an EOF item of length 0
 unfoldable pub emptyIfEof : Item → Bool
 emptyIfEof item = cond (eqb (item .kind) eofKind) (eqb (length (item .value)) 0) true
 

@@ -1,3 +1,4 @@
+pub mod ItemTypes
 pub mod Items
 pub mod Packet
 pub mod Names

@@ -21,11 +21,18 @@ unfoldable pub allNameBytes : List ℕ → Bool
 allNameBytes [] = true
 allNameBytes (byte ∷ bytes) = isNameByte byte && allNameBytes bytes
 
+-- 01, Items and packets: how long names and locations may be
+abbrev pub longestName : ℕ
+longestName = 27
+
+abbrev pub longestLocation : ℕ
+longestLocation = 64
+
 -- 01, Items and packets: names have 1 to 27 bytes: ASCII letters, digits, hyphen, underscore; the first is a letter. Case
 -- counts: a name is its bytes, and names are the same where their bytes are.
 unfoldable pub validName : List ℕ → Bool
-validName name = between 1 27 (length name) && isLetter (getD name 0 0) && allNameBytes name
+validName name = between 1 longestName (length name) && isLetter (getD name 0 0) && allNameBytes name
 
 -- 01, Items and packets: locations have 1 to 64 bytes
 unfoldable pub validLocation : List ℕ → Bool
-validLocation location = between 1 64 (length location)
+validLocation location = between 1 longestLocation (length location)

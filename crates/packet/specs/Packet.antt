@@ -1,12 +1,12 @@
 -- 01, Items and packets: a data packet is 01, opcode, request id (two bytes, high first), items. `packetOf` judges any bytes.
-use Prim.Native.Nat.{ℕ, _/_, _%_}
+use Prim.Native.Nat.{ℕ}
 use mathlib.Core.Bool.{Bool, cond, _&&_}
-use mathlib.Core.List.{List, [], _∷_}
+use mathlib.Core.List.{List, [], _∷_, _++_}
 use mathlib.Core.Option.{Option, none, some}
 use lib.Dec.{leb, eqb}
 use lib.ListN.{length, getD, drop}
 use Rattle.refusals.specs.Numbers.{noDataPacket, badItems}
-use Rattle.slices.specs.HighFirst.{pairOf}
+use Rattle.slices.specs.HighFirst.{pairOf, highFirst}
 use Rattle.packet.specs.Items.{Item, itemsOf, itemsBytes}
 
 pub record Packet : Type 0 where
@@ -45,7 +45,7 @@ packetItems bytes = judgedItems (packetOf bytes)
 
 -- a data packet as it is sent: its first four bytes in front of its items' bytes
 abbrev pub withHead : ℕ → ℕ → List ℕ → List ℕ
-withHead opcode id bytes = 1 ∷ opcode ∷ id / 256 ∷ id % 256 ∷ bytes
+withHead opcode id bytes = 1 ∷ opcode ∷ highFirst 2 id ++ bytes
 
 unfoldable pub packetBytes : Packet → List ℕ
 packetBytes p = withHead (p .opcode) (p .id) (itemsBytes (p .items))

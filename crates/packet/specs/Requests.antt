@@ -1,53 +1,26 @@
--- 01, Items and packets: the four requests, what each writes into a lent output and what it answers.
-use Prim.Native.Nat.{ℕ, _/_, _%_}
-use mathlib.Core.Path.{_≡_}
+-- 01, Items and packets: the four requests, the packet of each, and what its writer makes of an output with so much room.
+use Prim.Native.Nat.{ℕ}
 use mathlib.Core.Bool.{cond}
 use mathlib.Core.List.{List, [], _∷_}
-use lib.Dec.{leb}
-use lib.ListN.{length}
-use Rattle.refusals.specs.Numbers.{shortOutput, badName, badFragment}
-use Rattle.slices.specs.Put.{putAt}
+use Rattle.refusals.specs.Numbers.{badName, badFragment}
+use Rattle.slices.specs.HighFirst.{highFirst}
+use Rattle.slices.specs.Written.{Output, refused, fitted}
+use Rattle.packet.specs.ItemTypes.{nameKind, offsetKind, locationKind}
 use Rattle.packet.specs.Items.{Item}
 use Rattle.packet.specs.Packet.{Packet, packetBytes}
 use Rattle.packet.specs.Names.{validName, validLocation}
 use Rattle.packet.specs.declared.requests.Offset.{Offset}
 use Rattle.packet.specs.declared.requests.Offset.the-variants.{Given, Omitted}
-use Rattle.packet.specs.declared.requests.Written.{Written}
-use Rattle.packet.specs.declared.requests.Written.the-variants.{Length, Refused}
 
--- what a writer does: bytes at the start of the output, or a refusal
-pub data Output : Type 0 where
-  wrote : List ℕ → Output
-  refusedBy : ℕ → Output
-
--- 01, Refusal numbers, 7: a lent output is too short
-unfoldable pub fitted : ℕ → List ℕ → Output
-fitted room bytes = cond (leb (length bytes) room) (wrote bytes) (refusedBy shortOutput)
-
--- the writer's answer: how many bytes it wrote, or 01's number
-unfoldable pub answerOf : Output → Written
-answerOf (wrote bytes) = Length (length bytes)
-answerOf (refusedBy number) = Refused number
-
-unfoldable pub bytesOf : Output → List ℕ
-bytesOf (wrote bytes) = bytes
-bytesOf (refusedBy number) = []
-
--- what each writer promises of its answer and of the output before and after it: a refusal changes nothing, bytes beyond stay
-pub record Writes (output : Output) (before after : List ℕ) (answer : Written) : Type 0 where
-  pub answered : answer ≡ answerOf output
-  pub bytes : after ≡ putAt before 0 (bytesOf output)
-
--- 01, Items and packets: Name (01), Offset (11) in four bytes, high byte first, Location (13)
+-- 01, Items and packets: a Name, an Offset in four bytes, high byte first, a Location
 unfoldable pub nameItem : List ℕ → Item
-nameItem name = record { kind = 0x01; value = name }
+nameItem name = record { kind = nameKind; value = name }
 
 unfoldable pub offsetItem : ℕ → Item
-offsetItem offset =
-    record { kind = 0x11; value = offset / 0x1000000 ∷ offset / 0x10000 % 256 ∷ offset / 0x100 % 256 ∷ offset % 256 ∷ [] }
+offsetItem offset = record { kind = offsetKind; value = highFirst 4 offset }
 
 unfoldable pub locationItem : List ℕ → Item
-locationItem location = record { kind = 0x13; value = location }
+locationItem location = record { kind = locationKind; value = location }
 
 -- an Offset item if one is wanted
 unfoldable pub offsetItems : Offset → List Item
@@ -70,15 +43,15 @@ stopPacket id = record { opcode = 0x0e; id = id; items = [] }
 
 -- 01, Refusal numbers: request writers check name or location (12, 20) before 7
 unfoldable pub propertyGet : ℕ → List ℕ → ℕ → Output
-propertyGet id name room = cond (validName name) (fitted room (packetBytes (getPacket id name))) (refusedBy badName)
+propertyGet id name room = cond (validName name) (fitted room (packetBytes (getPacket id name))) (refused badName)
 
 unfoldable pub fileRequest : ℕ → List ℕ → Offset → ℕ → Output
 fileRequest id location offset room =
-    cond (validLocation location) (fitted room (packetBytes (filePacket id location offset))) (refusedBy badFragment)
+    cond (validLocation location) (fitted room (packetBytes (filePacket id location offset))) (refused badFragment)
 
 unfoldable pub fetchedRequest : ℕ → List ℕ → ℕ → Output
 fetchedRequest id location room =
-    cond (validLocation location) (fitted room (packetBytes (fetchedPacket id location))) (refusedBy badFragment)
+    cond (validLocation location) (fitted room (packetBytes (fetchedPacket id location))) (refused badFragment)
 
 unfoldable pub stopRequest : ℕ → ℕ → Output
 stopRequest id room = fitted room (packetBytes (stopPacket id))

@@ -4,9 +4,10 @@ use mathlib.Core.Bool.{cond}
 use mathlib.Core.List.{List, _∷_, _++_}
 use lib.ListN.{length}
 use Rattle.refusals.specs.Numbers.{badFragment}
+use Rattle.slices.specs.Written.{Output, refused, fitted}
+use Rattle.packet.specs.ItemTypes.{locationKind}
 use Rattle.packet.specs.Packet.{withHead}
 use Rattle.packet.specs.Names.{validLocation}
-use Rattle.packet.specs.Requests.{Output, refusedBy, fitted}
 
 -- the bytes of a packet whose first item has the kind and the value, and whose other items have the bytes further
 abbrev pub requestBytes : ℕ → ℕ → ℕ → List ℕ → List ℕ → List ℕ
@@ -15,4 +16,4 @@ requestBytes opcode id kind value further = withHead opcode id ((kind ∷ length
 -- the two requests for a file: what both write of the location, and the bytes of the further items
 unfoldable pub locatedRequest : ℕ → ℕ → List ℕ → List ℕ → ℕ → Output
 locatedRequest opcode id location further room =
-    cond (validLocation location) (fitted room (requestBytes opcode id 0x13 location further)) (refusedBy badFragment)
+    cond (validLocation location) (fitted room (requestBytes opcode id locationKind location further)) (refused badFragment)

@@ -1,10 +1,21 @@
 // Items, data packets, names and locations, and the four requests that the display writes.
 mod items;
+mod kinds;
 mod names;
 mod reading;
 mod requests;
 
 pub use items::Found;
+pub use kinds::BINARY_KIND;
+pub use kinds::BOOLEAN_KIND;
+pub use kinds::CENTS_KIND;
+pub use kinds::EOF_KIND;
+pub use kinds::INTEGER_KIND;
+pub use kinds::LENGTH_KIND;
+pub use kinds::LOCATION_KIND;
+pub use kinds::NAME_KIND;
+pub use kinds::OFFSET_KIND;
+pub use names::LONGEST_LOCATION;
 pub use names::valid_location;
 pub use names::valid_name;
 pub use reading::Reading;
@@ -15,23 +26,14 @@ pub use reading::find;
 pub use reading::read_packet;
 pub use reading::value;
 pub use requests::Offset;
-pub use requests::Written;
 pub use requests::fetched;
 pub use requests::file_request;
 pub use requests::property_get;
 pub use requests::stop;
+pub use slices::Written;
 
 // A data packet's first byte.
 const DATA: u8 = 1;
 
 // The bytes before a packet's items: 01, opcode, request id.
 const HEAD_LENGTH: usize = 4;
-
-// An item's type byte is called its kind, since `type` is a keyword.
-pub const NAME_KIND: u8 = 0x01;
-
-pub const OFFSET_KIND: u8 = 0x11;
-
-pub const LOCATION_KIND: u8 = 0x13;
-
-pub const EOF_KIND: u8 = 0x14;

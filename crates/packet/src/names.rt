@@ -4,7 +4,7 @@ ghost use Rattle.packet.specs.Names.{between, isLetter, isNameByte, vali
 
 const LONGEST_NAME: usize = 27;
 
-const LONGEST_LOCATION: usize = 64;
+pub const LONGEST_LOCATION: usize = 64;
 
 fn between(low: u8, high: u8, byte: u8) -> bool
     ensures { λ r. ⌜ r ≡ between low high byte ⌝ }

@@ -1,10 +1,10 @@
 // The four requests that the display writes.
 ghost use mathlib.Core.List.{_++_};
-ghost use mathlib.Core.Path.{_≡_};
 ghost use Prim.Native.Nat.{_+_, _<_};
 ghost use lib.ListN.{length};
+ghost use Rattle.slices.specs.Written.{fitted, WritesAs};
 ghost use Rattle.packet.specs.Packet.{withHead};
-ghost use Rattle.packet.specs.Requests.{Writes, fitted, propertyGet, fileRequest, fetchedRequest, stopRequest};
+ghost use Rattle.packet.specs.Requests.{propertyGet, fileRequest, fetchedRequest, stopRequest};
 ghost use Rattle.packet.specs.WriterSteps.{requestBytes, locatedRequest};
 use crate::DATA;
 use crate::HEAD_LENGTH;
@@ -16,6 +16,7 @@ use crate::names::valid_name;
 use refusals::BAD_FRAGMENT;
 use refusals::BAD_NAME;
 use refusals::SHORT_OUTPUT;
+use slices::Written;
 
 const GET_OPCODE: u8 = 0x02;
 
@@ -25,12 +26,8 @@ const FETCHED_OPCODE: u8 = 0x0d;
 
 const STOP_OPCODE: u8 = 0x0e;
 
-// What a request writer answers: how many bytes it wrote at the start of the output, or the number
-// of the refusal.
-pub enum Written {
-    Length(usize),
-    Refused(u8),
-}
+// How many bytes an Offset is written in.
+const OFFSET_LENGTH: u8 = 4;
 
 // Whether a file request names the offset to begin at.
 pub enum Offset {
@@ -49,7 +46,7 @@ fn write_packet(
     out: &mut [u8],
 ) -> Written
     requires { ⌜ length (now front) + length (now value) + length (now further) < 65536 ⌝ }
-    ensures { λ r. ⌜ Writes (fitted (length (now (out .entry))) (withHead opcode id (now (front .entry) ++ now (value .entry) ++ now (further .entry)))) (now (out .entry)) (now (out .exit)) r ⌝ }
+    ensures { λ r. ⌜ WritesAs (fitted (length (now (out .entry))) (withHead opcode id (now (front .entry) ++ now (value .entry) ++ now (further .entry)))) (now (out .entry)) r (now (out .exit)) ⌝ }
 {
     let first = HEAD_LENGTH + front.len();
     let second = first + value.len();
@@ -77,7 +74,7 @@ fn write_request(
     out: &mut [u8],
 ) -> Written
     requires { ⌜ length (now value) + length (now further) < 256 ⌝ }
-    ensures { λ r. ⌜ Writes (fitted (length (now (out .entry))) (requestBytes opcode id kind (now (value .entry)) (now (further .entry)))) (now (out .entry)) (now (out .exit)) r ⌝ }
+    ensures { λ r. ⌜ WritesAs (fitted (length (now (out .entry))) (requestBytes opcode id kind (now (value .entry)) (now (further .entry)))) (now (out .entry)) r (now (out .exit)) ⌝ }
 {
     let size = value.len() as u8;
     let front = [kind, size];
@@ -87,7 +84,7 @@ fn write_request(
 // Writes a request for the file at a location: refusal 20 for one that is not valid, then 7.
 fn write_located(opcode: u8, id: u16, location: &[u8], further: &[u8], out: &mut [u8]) -> Written
     requires { ⌜ length (now further) < 128 ⌝ }
-    ensures { λ r. ⌜ Writes (locatedRequest opcode id (now (location .entry)) (now (further .entry)) (length (now (out .entry)))) (now (out .entry)) (now (out .exit)) r ⌝ }
+    ensures { λ r. ⌜ WritesAs (locatedRequest opcode id (now (location .entry)) (now (further .entry)) (length (now (out .entry)))) (now (out .entry)) r (now (out .exit)) ⌝ }
 {
     let valid = valid_location(location);
     if !valid {
@@ -98,7 +95,7 @@ fn write_located(opcode: u8, id: u16, location: &[u8], further: &[u8], out: &mut
 
 // Writes a property get: refusal 12 for a name that is not valid, then 7.
 pub fn property_get(id: u16, name: &[u8], out: &mut [u8]) -> Written
-    ensures { λ r. ⌜ Writes (propertyGet id (now (name .entry)) (length (now (out .entry)))) (now (out .entry)) (now (out .exit)) r ⌝ }
+    ensures { λ r. ⌜ WritesAs (propertyGet id (now (name .entry)) (length (now (out .entry)))) (now (out .entry)) r (now (out .exit)) ⌝ }
 {
     let valid = valid_name(name);
     if !valid {
@@ -109,7 +106,7 @@ pub fn property_get(id: u16, name: &[u8], out: &mut [u8]) -> Written
 
 // Writes a file request: refusal 20 for a location that is not valid, then 7.
 pub fn file_request(id: u16, location: &[u8], offset: Offset, out: &mut [u8]) -> Written
-    ensures { λ r. ⌜ Writes (fileRequest id (now (location .entry)) offset (length (now (out .entry)))) (now (out .entry)) (now (out .exit)) r ⌝ }
+    ensures { λ r. ⌜ WritesAs (fileRequest id (now (location .entry)) offset (length (now (out .entry)))) (now (out .entry)) r (now (out .exit)) ⌝ }
 {
     let Offset::Given(place) = offset else {
         return write_located(FILE_OPCODE, id, location, b"", out);
@@ -118,20 +115,20 @@ pub fn file_request(id: u16, location: &[u8], offset: Offset, out: &mut [u8]) ->
     let second = (place / 0x10000 % 256) as u8;
     let third = (place / 0x100 % 256) as u8;
     let fourth = (place % 256) as u8;
-    let further = [OFFSET_KIND, 4, first, second, third, fourth];
+    let further = [OFFSET_KIND, OFFSET_LENGTH, first, second, third, fourth];
     write_located(FILE_OPCODE, id, location, &further, out)
 }
 
 // Writes a fetched packet: refusal 20 for a location that is not valid, then 7.
 pub fn fetched(id: u16, location: &[u8], out: &mut [u8]) -> Written
-    ensures { λ r. ⌜ Writes (fetchedRequest id (now (location .entry)) (length (now (out .entry)))) (now (out .entry)) (now (out .exit)) r ⌝ }
+    ensures { λ r. ⌜ WritesAs (fetchedRequest id (now (location .entry)) (length (now (out .entry)))) (now (out .entry)) r (now (out .exit)) ⌝ }
 {
     write_located(FETCHED_OPCODE, id, location, b"", out)
 }
 
 // Writes a stop packet, which has no items: refusal 7.
 pub fn stop(id: u16, out: &mut [u8]) -> Written
-    ensures { λ r. ⌜ Writes (stopRequest id (length (now (out .entry)))) (now (out .entry)) (now (out .exit)) r ⌝ }
+    ensures { λ r. ⌜ WritesAs (stopRequest id (length (now (out .entry)))) (now (out .entry)) r (now (out .exit)) ⌝ }
 {
     write_packet(STOP_OPCODE, id, b"", b"", b"", out)
 }

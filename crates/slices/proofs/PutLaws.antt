@@ -1,17 +1,13 @@
--- The laws of `putAt` that callers cite: a refusal keeps the buffer, what stands before and beyond stays, the first bytes are
--- those that were put. Each goes through the stores one by one.
+-- The laws of `putAt` that callers cite: the buffer keeps its length, what stands beyond stays, the first bytes are those that were put.
+-- Each goes through the stores one by one.
 use mathlib.Core.Path.{_≡_, refl, ap, _∙_}
 use mathlib.Core.List.{List, [], _∷_, _++_}
 use Prim.Native.Nat.{ℕ, suc, _+_, _≤_, min}
 use native.Mathlib.Nat.{zero-min, min-zero, suc-min-suc}
 use native.Mathlib.Omega.{arith}
 use lib.ListN.{length, take, drop, set}
-use lib.Seq.{length-sets, sets-eq, set-out, take-set-le, drop-set-lt, take-at}
+use lib.Seq.{length-sets, sets-eq, set-out, drop-set-lt, take-at}
 use Rattle.slices.specs.Put.{putAt}
-
--- no bytes put, as at a refusal: the buffer is as it was
-pub put-none : (d : List ℕ) (at : ℕ) → putAt d at [] ≡ d
-put-none d at = refl
 
 -- the buffer keeps its length
 pub length-put : (d : List ℕ) (at : ℕ) (xs : List ℕ) → length (putAt d at xs) ≡ length d
@@ -31,11 +27,6 @@ put-append d at [] ys = let e : at + 0 ≡ at = omega arith in rw e
 put-append d at (x ∷ xs) ys =
     let e : at + suc (length xs) ≡ suc at + length xs = omega arith in
     rw e (put-append (set d at x) (suc at) xs ys)
-
--- what stands before the place stays
-pub put-before : (d : List ℕ) (at : ℕ) (xs : List ℕ) (n : ℕ) → n ≤ at → take n (putAt d at xs) ≡ take n d
-put-before d at [] n h = refl
-put-before d at (x ∷ xs) n h = put-before (set d at x) (suc at) xs n (omega arith) ∙ take-set-le n d at x h
 
 -- what stands beyond the bytes put stays
 pub put-beyond : (d : List ℕ) (at : ℕ) (xs : List ℕ) (n : ℕ) → at + length xs ≤ n → drop n (putAt d at xs) ≡ drop n d

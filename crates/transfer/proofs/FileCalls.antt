@@ -4,9 +4,9 @@ use mathlib.Core.Path.{_≡_, refl}
 use mathlib.Core.List.{List, [], _∷_}
 use Prim.Native.Nat.{ℕ}
 use Rattle.slices.proofs.Lent.{InCall, InOutCall, in-call, in-out-call}
+use Rattle.packet.specs.ItemTypes.{binaryKind}
 use Rattle.packet.specs.Items.{valueIn}
 use Rattle.packet.specs.Packet.{packetItems}
-use Rattle.transfer.specs.Fragment.{binaryKind}
 use Rattle.transfer.specs.Transfer.{startOf, outcomeBy, fileBy, verdictFor, Takes}
 use Rattle.transfer.specs.Calls.{Held, left}
 use Rattle.transfer.specs.declared.taking.Outcome.{Outcome}

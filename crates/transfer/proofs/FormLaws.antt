@@ -1,50 +1,48 @@
 -- The laws of a fragment's form, one for each way through the code: what the tests on the way say of the items settles it.
-use mathlib.Core.Path.{_≡_, refl}
+use mathlib.Core.Path.{_≡_, ap}
 use mathlib.Core.Bool.{true, false}
 use mathlib.Core.List.{List, [], _∷_}
+use mathlib.Core.Option.{none, some}
 use Prim.Native.Nat.{ℕ, _+_, _*_, _≤_, _<_}
 use native.Mathlib.Omega.{arith}
 use lib.Dec.{eqb}
 use lib.ListN.{length, getD}
 use borrow.Author.Tests.{eq-eqb, ne-eqb, lt-ltb, le-ltb, le-leb, lt-leb}
-use Rattle.slices.specs.HighFirst.{pairOf}
-use Rattle.packet.specs.Items.{Item, eofKind, countOf, valueIn}
-use Rattle.transfer.specs.Fragment.{binaryKind, offsetKind, lengthKind, locationKind, numberOf, rightItems, isLast, rightBinary, rightLocation, declaring, formAt, formOf}
+use Rattle.slices.specs.HighFirst.{wordOf, pairOf}
+use Rattle.packet.specs.ItemTypes.{binaryKind, offsetKind, lengthKind, locationKind, eofKind}
+use Rattle.packet.specs.Items.{Item, countOf, valueIn}
+use Rattle.transfer.specs.Fragment.{numberOf, rightItems, isLast, rightBinary, rightLocation, good, bad, declaring, formAt, formOf}
 use Rattle.transfer.specs.declared.state.Declared.the-variants.{Unknown}
-use Rattle.transfer.specs.declared.fragment.Number.the-variants.{Is, NoNumber}
-use Rattle.transfer.specs.declared.fragment.Form.the-variants.{Good, Bad}
 
 -- a number by the length of its bytes
-pub number-one : (bytes : List ℕ) → length bytes ≡ 1 → numberOf bytes ≡ Is (getD bytes 0 0)
+pub number-one : (bytes : List ℕ) → length bytes ≡ 1 → numberOf bytes ≡ some (getD bytes 0 0)
 unfolding numberOf
 number-one [] h = absurd (omega arith)
-number-one (a ∷ []) h = refl
+number-one (a ∷ []) h = let word : wordOf (a ∷ []) ≡ a = omega arith in ap some word
 number-one (a ∷ b ∷ more) h = absurd (omega arith)
 
-pub number-two : (bytes : List ℕ) → length bytes ≡ 2 → numberOf bytes ≡ Is (pairOf (getD bytes 0 0) (getD bytes 1 0))
+pub number-two : (bytes : List ℕ) → length bytes ≡ 2 → numberOf bytes ≡ some (pairOf (getD bytes 0 0) (getD bytes 1 0))
 unfolding numberOf
 number-two [] h = absurd (omega arith)
 number-two (a ∷ []) h = absurd (omega arith)
-number-two (a ∷ b ∷ []) h = refl
+number-two (a ∷ b ∷ []) h = let word : wordOf (a ∷ b ∷ []) ≡ pairOf a b = omega arith in ap some word
 number-two (a ∷ b ∷ c ∷ more) h = absurd (omega arith)
 
-pub number-four : (bytes : List ℕ) → length bytes ≡ 4 → numberOf bytes ≡ Is (pairOf (getD bytes 0 0) (getD bytes 1 0) * 65536 + pairOf (getD bytes 2 0) (getD bytes 3 0))
+pub number-four : (bytes : List ℕ) → length bytes ≡ 4 → numberOf bytes ≡ some (pairOf (getD bytes 0 0) (getD bytes 1 0) * 65536 + pairOf (getD bytes 2 0) (getD bytes 3 0))
 unfolding numberOf
 number-four [] h = absurd (omega arith)
 number-four (a ∷ []) h = absurd (omega arith)
 number-four (a ∷ b ∷ []) h = absurd (omega arith)
 number-four (a ∷ b ∷ c ∷ []) h = absurd (omega arith)
-number-four (a ∷ b ∷ c ∷ d ∷ []) h = refl
+number-four (a ∷ b ∷ c ∷ d ∷ []) h =
+    let word : wordOf (a ∷ b ∷ c ∷ d ∷ []) ≡ pairOf a b * 65536 + pairOf c d = omega arith in
+    ap some word
 number-four (a ∷ b ∷ c ∷ d ∷ e ∷ more) h = absurd (omega arith)
 
-pub number-none : (bytes : List ℕ) → (length bytes ≡ 1 → ⊥) → (length bytes ≡ 2 → ⊥) → (length bytes ≡ 4 → ⊥) → numberOf bytes ≡ NoNumber
+pub number-none : (bytes : List ℕ) → (length bytes ≡ 1 → ⊥) → (length bytes ≡ 2 → ⊥) → (length bytes ≡ 4 → ⊥) → numberOf bytes ≡ none
 unfolding numberOf
-number-none [] one two four = refl
-number-none (a ∷ []) one two four = absurd (one refl)
-number-none (a ∷ b ∷ []) one two four = absurd (two refl)
-number-none (a ∷ b ∷ c ∷ []) one two four = refl
-number-none (a ∷ b ∷ c ∷ d ∷ []) one two four = absurd (four refl)
-number-none (a ∷ b ∷ c ∷ d ∷ e ∷ more) one two four = refl
+number-none bytes one two four =
+    rw (ne-eqb (length bytes) 1 one, ne-eqb (length bytes) 2 two, ne-eqb (length bytes) 4 four)
 
 module _ (items : List Item) where
   -- the counts of the kinds, tested in their order
@@ -87,31 +85,31 @@ module _ (items : List Item) where
 
   -- a fragment at an offset, without and with a Length
   module _ (offset : ℕ) where
-    pub at-undeclared : countOf lengthKind items ≡ 0 → formAt items (Is offset) ≡ Good offset Unknown (isLast items)
+    pub at-undeclared : countOf lengthKind items ≡ 0 → formAt items (some offset) ≡ good offset Unknown (isLast items)
     unfolding formAt
     at-undeclared h = rw h
 
     module _ (some-length : countOf lengthKind items ≡ 0 → ⊥) where
-      pub at-late : (offset ≡ 0 → ⊥) → formAt items (Is offset) ≡ Bad
+      pub at-late : (offset ≡ 0 → ⊥) → formAt items (some offset) ≡ bad
       unfolding formAt
       at-late h = rw (ne-eqb (countOf lengthKind items) 0 some-length, ne-eqb offset 0 h)
 
-      pub at-declared : offset ≡ 0 → formAt items (Is offset) ≡ declaring offset (isLast items) (numberOf (valueIn lengthKind items))
+      pub at-declared : offset ≡ 0 → formAt items (some offset) ≡ declaring offset (isLast items) (numberOf (valueIn lengthKind items))
       unfolding formAt
       at-declared h = rw (ne-eqb (countOf lengthKind items) 0 some-length, eq-eqb offset 0 h)
 
   -- the whole form
-  pub form-items : rightItems items ≡ false → formOf items ≡ Bad
+  pub form-items : rightItems items ≡ false → formOf items ≡ bad
   unfolding formOf
   form-items h = rw h
 
   module _ (right : rightItems items ≡ true) where
-    pub form-location : rightLocation items ≡ false → formOf items ≡ Bad
+    pub form-location : rightLocation items ≡ false → formOf items ≡ bad
     unfolding formOf
     form-location h = rw (right, h)
 
     module _ (location : rightLocation items ≡ true) where
-      pub form-binary : rightBinary items ≡ false → formOf items ≡ Bad
+      pub form-binary : rightBinary items ≡ false → formOf items ≡ bad
       unfolding formOf
       form-binary h = rw (right, location, h)
 

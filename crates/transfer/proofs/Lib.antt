@@ -1,5 +1,6 @@
 pub mod AcceptedLaws
 pub mod FormLaws
 pub mod JudgeLaws
+pub mod StepLaws
 pub mod FileCalls
 pub mod WholeFile

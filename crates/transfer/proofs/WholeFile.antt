@@ -11,20 +11,18 @@ use Rattle.refusals.specs.Numbers.{badFragment}
 use Rattle.slices.proofs.Impossible.{impossible}
 use Rattle.slices.specs.Put.{putAt}
 use Rattle.slices.proofs.PutLaws.{put-append, put-first, put-beyond, length-put}
+use Rattle.packet.specs.ItemTypes.{binaryKind}
 use Rattle.packet.specs.Items.{valueIn}
 use Rattle.packet.specs.Names.{validLocation}
 use Rattle.packet.specs.Packet.{packetOf, packetItems}
-use Rattle.transfer.specs.Fragment.{binaryKind}
-use Rattle.transfer.specs.Transfer.{freshTransfer, refusedWith, startOf, outcomeBy, fileBy, verdictFor, Takes}
+use Rattle.transfer.specs.Transfer.{Verdict, accepted, refused, freshTransfer, refusedWith, startOf, outcomeBy, fileBy, verdictFor, Takes}
 use Rattle.transfer.specs.Calls.{Held, acceptedBytes, started, left}
 use Rattle.transfer.specs.declared.taking.Answer.the-variants as answer
 use Rattle.transfer.specs.declared.state.Declared.{Declared}
 use Rattle.transfer.specs.declared.state.Declared.the-variants.{Known}
 use Rattle.transfer.specs.declared.taking.Outcome.{Outcome}
-use Rattle.transfer.specs.declared.judging.Verdict.{Verdict}
-use Rattle.transfer.specs.declared.judging.Verdict.the-variants.{Accepted, Refused}
 use Rattle.transfer.proofs.FileCalls.{Starts, Calls, none, call, was-started, was-taken}
-use Rattle.transfer.proofs.AcceptedLaws.{AcceptedBy, accepted, last-reaches}
+use Rattle.transfer.proofs.AcceptedLaws.{AcceptedBy, fragment-accepted, last-reaches}
 
 -- what holds between the calls: the joined fragments lie at the start of the first buffer, next is their number, and a
 -- completed transfer has the declared length
@@ -44,20 +42,20 @@ module _ (first : List ℕ) (held : Held) (holds : Holds first held) (bytes : Li
   leftBy v = left held bytes (fileBy (held .file) value v) (outcomeBy (held .transfer) v)
 
   -- a refused packet adds nothing to what is joined
-  same-joined : (number : ℕ) → leftBy (Refused number) .joined ≡ held .joined
+  same-joined : (number : ℕ) → leftBy (refused number) .joined ≡ held .joined
   unfolding outcomeBy acceptedBytes
   same-joined number = append-nil (held .joined)
 
-  refused-holds : (number : ℕ) → Holds first (leftBy (Refused number))
+  refused-holds : (number : ℕ) → Holds first (leftBy (refused number))
   unfolding outcomeBy fileBy
   refused-holds number =
       rw (same-joined number)
       record { laid = holds .laid; counted = holds .counted; fits = holds .fits; whole = holds .whole }
 
-  accepted-holds : (offset next : ℕ) (declared : Declared) (last : Bool) → verdictFor (held .transfer) bytes (held .file) ≡ Accepted offset next declared last → Holds first (leftBy (Accepted offset next declared last))
+  accepted-holds : (offset next : ℕ) (declared : Declared) (last : Bool) → verdictFor (held .transfer) bytes (held .file) ≡ accepted offset next declared last → Holds first (leftBy (accepted offset next declared last))
   unfolding outcomeBy fileBy acceptedBytes packetItems
   accepted-holds offset next declared last e =
-      let by : AcceptedBy (held .transfer) (length (held .file)) (length value) offset next declared last = accepted offset next declared last (held .transfer) (length (held .file)) (packetOf bytes) e in
+      let by : AcceptedBy (held .transfer) (length (held .file)) (length value) offset next declared last = fragment-accepted offset next declared last (held .transfer) (length (held .file)) (packetOf bytes) e in
       let here : offset ≡ length (held .joined) = by .at-next ∙ holds .counted in
       let place : offset ≡ 0 + length (held .joined) = omega arith in
       let size : length (held .joined ++ value) ≡ length (held .joined) + length value = length-append (held .joined) value in
@@ -75,8 +73,8 @@ module _ (first : List ℕ) (held : Held) (holds : Holds first held) (bytes : Li
   call-holds after outcome takes = rw (takes .answered, takes .written) (cases (verdictFor (held .transfer) bytes (held .file)) refl)
     where
       cases : (v : Verdict) → verdictFor (held .transfer) bytes (held .file) ≡ v → Holds first (leftBy v)
-      cases (Refused number) e = refused-holds number
-      cases (Accepted offset next declared last) e = accepted-holds offset next declared last e
+      cases (refused number) e = refused-holds number
+      cases (accepted offset next declared last) e = accepted-holds offset next declared last e
 
 calls-hold : (first : List ℕ) (held end : Held) (packets : List (List ℕ)) → Holds first held → Calls held packets end → Holds first end
 calls-hold first held end packets holds (none same) = holds

@@ -1,9 +1,9 @@
 -- 01, File fragments: what calls on one transfer leave, with the same file buffer, which nothing else touches.
 use Prim.Native.Nat.{ℕ}
 use mathlib.Core.List.{List, [], _++_}
+use Rattle.packet.specs.ItemTypes.{binaryKind}
 use Rattle.packet.specs.Items.{valueIn}
 use Rattle.packet.specs.Packet.{packetItems}
-use Rattle.transfer.specs.Fragment.{binaryKind}
 use Rattle.transfer.specs.declared.state.Transfer.{Transfer}
 use Rattle.transfer.specs.declared.taking.Answer.{Answer}
 use Rattle.transfer.specs.declared.taking.Answer.the-variants.{Accepted, Refused}

@@ -1,39 +1,21 @@
 -- 01, File fragments: what a packet's items say as a fragment, and when they have a good form.
-use Prim.Native.Nat.{ℕ, _+_, _*_}
+use Prim.Native.Nat.{ℕ, _+_}
 use mathlib.Core.Bool.{Bool, cond, _&&_, _||_}
-use mathlib.Core.List.{List, [], _∷_}
+use mathlib.Core.List.{List}
+use mathlib.Core.Option.{Option, none, some}
 use lib.Dec.{leb, ltb, eqb}
 use lib.ListN.{length}
-use Rattle.slices.specs.HighFirst.{pairOf}
-use Rattle.packet.specs.Items.{Item, eofKind, countOf, valueIn}
+use Rattle.slices.specs.HighFirst.{wordOf}
+use Rattle.packet.specs.ItemTypes.{binaryKind, offsetKind, lengthKind, locationKind, eofKind}
+use Rattle.packet.specs.Items.{Item, countOf, valueIn}
 use Rattle.packet.specs.Names.{validLocation}
+use Rattle.transfer.specs.declared.state.Declared.{Declared}
 use Rattle.transfer.specs.declared.state.Declared.the-variants.{Unknown, Known}
-use Rattle.transfer.specs.declared.fragment.Number.{Number}
-use Rattle.transfer.specs.declared.fragment.Number.the-variants.{Is, NoNumber}
-use Rattle.transfer.specs.declared.fragment.Form.{Form}
-use Rattle.transfer.specs.declared.fragment.Form.the-variants.{Good, Bad}
-
--- 01, File fragments: Binary (04), Length (12); Items and packets: Offset (11), Location (13)
-abbrev pub binaryKind : ℕ
-binaryKind = 0x04
-
-abbrev pub offsetKind : ℕ
-offsetKind = 0x11
-
-abbrev pub lengthKind : ℕ
-lengthKind = 0x12
-
-abbrev pub locationKind : ℕ
-locationKind = 0x13
 
 -- 01, File fragments: Offset and Length are unsigned, 1, 2 or 4 bytes. The high byte is first, as in all of 01.
-unfoldable pub numberOf : List ℕ → Number
-numberOf [] = NoNumber
-numberOf (a ∷ []) = Is a
-numberOf (a ∷ b ∷ []) = Is (pairOf a b)
-numberOf (a ∷ b ∷ c ∷ []) = NoNumber
-numberOf (a ∷ b ∷ c ∷ d ∷ []) = Is (pairOf a b * 65536 + pairOf c d)
-numberOf (a ∷ b ∷ c ∷ d ∷ e ∷ more) = NoNumber
+unfoldable pub numberOf : List ℕ → Option ℕ
+numberOf bytes =
+    cond (eqb (length bytes) 1 || eqb (length bytes) 2 || eqb (length bytes) 4) (some (wordOf bytes)) none
 
 -- 01, File fragments: exactly one Location, one Offset, one Binary, at most one Length and at most one EOF, in any order,
 -- and nothing else: these are all the items
@@ -58,20 +40,25 @@ rightBinary items = ltb 0 (length (valueIn binaryKind items)) || isLast items
 unfoldable pub rightLocation : List Item → Bool
 rightLocation items = validLocation (valueIn locationKind items)
 
+-- the form of a fragment: where it is good, its offset, the length that it declares, and whether it is the last
+pub data Form : Type 0 where
+  good : (offset : ℕ) (declared : Declared) (last : Bool) → Form
+  bad : Form
+
 -- a fragment at the offset, with the length that its Length item declares
-unfoldable pub declaring : ℕ → Bool → Number → Form
-declaring offset last (Is total) = Good offset (Known total) last
-declaring offset last NoNumber = Bad
+unfoldable pub declaring : ℕ → Bool → Option ℕ → Form
+declaring offset last (some total) = good offset (Known total) last
+declaring offset last none = bad
 
 -- 01, File fragments: Length may stand only at offset 0
-unfoldable pub formAt : List Item → Number → Form
-formAt items NoNumber = Bad
-formAt items (Is offset) =
+unfoldable pub formAt : List Item → Option ℕ → Form
+formAt items none = bad
+formAt items (some offset) =
     cond (eqb (countOf lengthKind items) 0)
-    (Good offset Unknown (isLast items))
-    (cond (eqb offset 0) (declaring offset (isLast items) (numberOf (valueIn lengthKind items))) Bad)
+    (good offset Unknown (isLast items))
+    (cond (eqb offset 0) (declaring offset (isLast items) (numberOf (valueIn lengthKind items))) bad)
 
--- the form of the items: a good fragment's offset, the length that it declares, and whether it is the last
+-- 01, File fragments: all else is 20
 unfoldable pub formOf : List Item → Form
 formOf items =
-    cond (rightItems items && rightLocation items && rightBinary items) (formAt items (numberOf (valueIn offsetKind items))) Bad
+    cond (rightItems items && rightLocation items && rightBinary items) (formAt items (numberOf (valueIn offsetKind items))) bad

@@ -1,3 +1,4 @@
 pub mod Fragment
 pub mod Transfer
 pub mod Calls
+pub mod Steps

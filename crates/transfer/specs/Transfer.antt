@@ -8,23 +8,17 @@ use lib.ListN.{length, take, replicate}
 use Rattle.refusals.specs.Numbers.{otherOpcode, otherLocation, wrongOffset, pastLength, earlyEnd, badFragment}
 use Rattle.slices.specs.Put.{putAt}
 use Rattle.slices.specs.Same.{sameBytes}
+use Rattle.packet.specs.ItemTypes.{binaryKind, locationKind}
 use Rattle.packet.specs.Items.{Item, valueIn}
-use Rattle.packet.specs.Names.{validLocation}
-use Rattle.packet.specs.Packet.{Judged, packet, refused, packetOf, packetItems}
-use Rattle.transfer.specs.Fragment.{binaryKind, locationKind, formOf}
+use Rattle.packet.specs.Names.{longestLocation, validLocation}
+use Rattle.packet.specs.Packet as judged
+use Rattle.packet.specs.Packet.{Judged, packetOf, packetItems}
+use Rattle.transfer.specs.Fragment.{Form, good, bad, formOf}
 use Rattle.transfer.specs.declared.state.Declared.{Declared}
 use Rattle.transfer.specs.declared.state.Declared.the-variants.{Unknown, Known}
-use Rattle.transfer.specs.declared.fragment.Form.{Form}
-use Rattle.transfer.specs.declared.fragment.Form.the-variants.{Good, Bad}
-use Rattle.transfer.specs.declared.judging.Verdict.{Verdict}
-use Rattle.transfer.specs.declared.judging.Verdict.the-variants as verdict
 use Rattle.transfer.specs.declared.state.Transfer.{Transfer}
 use Rattle.transfer.specs.declared.taking.Answer.the-variants as answer
 use Rattle.transfer.specs.declared.taking.Outcome.{Outcome}
-
--- 01, Items and packets: locations have up to 64 bytes
-abbrev pub locationRoom : ℕ
-locationRoom = 64
 
 -- 01, File fragments (opcode 0b)
 abbrev pub fragmentOpcode : ℕ
@@ -35,7 +29,7 @@ fragmentOpcode = 0x0b
 abbrev pub freshTransfer : List ℕ → Transfer
 freshTransfer location =
     record {
-      location = putAt (replicate locationRoom 0) 0 location;
+      location = putAt (replicate longestLocation 0) 0 location;
       length = length location;
       next = 0;
       declared = Unknown;
@@ -82,28 +76,34 @@ isLong room offset count declared = ltb room (offset + count) || passesLength de
 unfoldable pub goesOn : Transfer → ℕ → Bool
 goesOn transfer offset = not (transfer .complete) && eqb offset (transfer .next)
 
+-- what a packet is to a transfer: accepted, with the offset of its bytes and what the transfer's next offset, length and end are then, or
+-- refused by a number
+pub data Verdict : Type 0 where
+  accepted : (offset next : ℕ) (declared : Declared) (last : Bool) → Verdict
+  refused : ℕ → Verdict
+
 -- 01, Refusal numbers: 18, then 19
 unfoldable pub judgeEnd : ℕ → ℕ → ℕ → Declared → Bool → Verdict
 judgeEnd room offset count declared last =
     cond (isLong room offset count declared)
-    (verdict.Refused pastLength)
-    (cond (endsEarly declared last (offset + count)) (verdict.Refused earlyEnd) (verdict.Accepted offset (offset + count) declared last))
+    (refused pastLength)
+    (cond (endsEarly declared last (offset + count)) (refused earlyEnd) (accepted offset (offset + count) declared last))
 
 -- 01, Refusal numbers: 20, 16, 17, 18, 19 for fragments. 16: a fragment of another location.
 unfoldable pub judgeForm : Transfer → ℕ → List Item → Form → Verdict
-judgeForm transfer room items Bad = verdict.Refused badFragment
-judgeForm transfer room items (Good offset declared last) =
+judgeForm transfer room items bad = refused badFragment
+judgeForm transfer room items (good offset declared last) =
     cond (sameBytes (valueIn locationKind items) (locationOf transfer))
     (cond (goesOn transfer offset)
     (judgeEnd room offset (length (valueIn binaryKind items)) (knownLength declared (transfer .declared)) last)
-    (verdict.Refused wrongOffset))
-    (verdict.Refused otherLocation)
+    (refused wrongOffset))
+    (refused otherLocation)
 
 -- 01, Refusal numbers: for packets 9, 10, 11, then those for fragments
 unfoldable pub verdictOf : Transfer → ℕ → Judged → Verdict
-verdictOf transfer room (refused number) = verdict.Refused number
-verdictOf transfer room (packet p) =
-    cond (eqb (p .opcode) fragmentOpcode) (judgeForm transfer room (p .items) (formOf (p .items))) (verdict.Refused otherOpcode)
+verdictOf transfer room (judged.refused number) = refused number
+verdictOf transfer room (judged.packet p) =
+    cond (eqb (p .opcode) fragmentOpcode) (judgeForm transfer room (p .items) (formOf (p .items))) (refused otherOpcode)
 
 -- 01, File fragments: next grows by the number of the fragment's bytes; EOF completes it
 abbrev pub advanced : Transfer → ℕ → Declared → Bool → Transfer
@@ -118,14 +118,14 @@ advanced transfer next declared last =
 
 -- what becomes of the transfer, and the answer
 unfoldable pub outcomeBy : Transfer → Verdict → Outcome
-outcomeBy transfer (verdict.Refused number) = refusedWith transfer number
-outcomeBy transfer (verdict.Accepted offset next declared last) =
+outcomeBy transfer (refused number) = refusedWith transfer number
+outcomeBy transfer (accepted offset next declared last) =
     record { transfer = advanced transfer next declared last; answer = answer.Accepted }
 
 -- 01, File fragments: an accepted fragment writes its bytes at its offset and no others
 unfoldable pub fileBy : List ℕ → List ℕ → Verdict → List ℕ
-fileBy file bytes (verdict.Refused number) = file
-fileBy file bytes (verdict.Accepted offset next declared last) = putAt file offset bytes
+fileBy file bytes (refused number) = file
+fileBy file bytes (accepted offset next declared last) = putAt file offset bytes
 
 -- what a packet is to a transfer and a lent file buffer
 abbrev pub verdictFor : Transfer → List ℕ → List ℕ → Verdict

@@ -1,19 +1,21 @@
 // What a packet's items say as a fragment, and whether they have a good form.
+ghost use mathlib.Core.Option.{some};
 ghost use mathlib.Core.Path.{_≡_};
 ghost use Rattle.packet.specs.Packet.{packetItems};
 ghost use Rattle.transfer.specs.Fragment.{numberOf, rightItems, isLast, rightBinary, formAt, formOf};
+ghost use Rattle.transfer.specs.Steps.{asNumber, asForm};
 use crate::state::Declared;
+use packet::BINARY_KIND;
 use packet::EOF_KIND;
+use packet::LENGTH_KIND;
 use packet::LOCATION_KIND;
 use packet::OFFSET_KIND;
 use packet::count;
 use packet::value;
 use slices::pair;
 
-// An item's type byte is called its kind, since `type` is a keyword.
-pub const BINARY_KIND: u8 = 0x04;
-
-pub const LENGTH_KIND: u8 = 0x12;
+// How many items each fragment has: Location, Offset, Binary.
+const REQUIRED_ITEMS: usize = 3;
 
 // What the bytes of an Offset or a Length say.
 enum Number {
@@ -33,7 +35,7 @@ pub(crate) enum Form {
 
 // The form of the packet's items as a fragment.
 pub(crate) fn read_form(packet: &[u8]) -> Form
-    ensures { λ r. ⌜ r ≡ formOf (packetItems (now (packet .entry))) ⌝ }
+    ensures { λ r. ⌜ r ≡ asForm (formOf (packetItems (now (packet .entry)))) ⌝ }
 {
     if !right_items(packet) {
         return Form::Bad;
@@ -52,7 +54,7 @@ pub(crate) fn read_form(packet: &[u8]) -> Form
 
 // The form of a fragment at the offset: a Length stands only at offset 0.
 fn read_length(packet: &[u8], offset: usize) -> Form
-    ensures { λ r. ⌜ r ≡ formAt (packetItems (now (packet .entry))) (Number.Is offset) ⌝ }
+    ensures { λ r. ⌜ r ≡ asForm (formAt (packetItems (now (packet .entry))) (some offset)) ⌝ }
 {
     let last = is_last(packet);
     let lengths = count(packet, LENGTH_KIND);
@@ -99,7 +101,7 @@ fn right_items(packet: &[u8]) -> bool
         return false;
     }
     let optional = lengths + ends;
-    let known = optional + 3;
+    let known = optional + REQUIRED_ITEMS;
     packet::count_all(packet) == known
 }
 
@@ -123,7 +125,7 @@ fn right_binary(packet: &[u8]) -> bool
 
 // An unsigned number of 1, 2 or 4 bytes, high byte first.
 fn read_number(bytes: &[u8]) -> Number
-    ensures { λ r. ⌜ r ≡ numberOf (now (bytes .entry)) ⌝ }
+    ensures { λ r. ⌜ r ≡ asNumber (numberOf (now (bytes .entry))) ⌝ }
 {
     let length = bytes.len();
     if length == 1 {

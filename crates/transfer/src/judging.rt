@@ -2,13 +2,14 @@
 ghost use mathlib.Core.Path.{_≡_};
 ghost use Rattle.packet.specs.Packet.{packetOf, packetItems};
 ghost use Rattle.transfer.specs.Transfer.{knownLength, passesLength, isLong, endsEarly, judgeEnd, judgeForm, verdictOf};
-use crate::fragment::BINARY_KIND;
+ghost use Rattle.transfer.specs.Steps.{formBy, asVerdict};
 use crate::fragment::Form;
 use crate::fragment::read_form;
 use crate::state::Declared;
 use crate::state::Transfer;
 use crate::state::goes_on;
 use crate::state::is_of;
+use packet::BINARY_KIND;
 use packet::LOCATION_KIND;
 use packet::value;
 use refusals::BAD_FRAGMENT;
@@ -35,7 +36,7 @@ pub(crate) enum Verdict {
 
 // Tests the packet and its opcode, then its form as a fragment. `room` is the file buffer's length.
 pub(crate) fn judge(transfer: Transfer, packet: &[u8], room: usize) -> Verdict
-    ensures { λ r. ⌜ r ≡ verdictOf transfer room (packetOf (now (packet .entry))) ⌝ }
+    ensures { λ r. ⌜ r ≡ asVerdict (verdictOf transfer room (packetOf (now (packet .entry)))) ⌝ }
 {
     match packet::read_packet(packet) {
         packet::Reading::Refused(number) => Verdict::Refused(number),
@@ -52,7 +53,7 @@ pub(crate) fn judge(transfer: Transfer, packet: &[u8], room: usize) -> Verdict
 
 // Tests a fragment of that form against the transfer: location, offset, then where it ends.
 fn judge_form(transfer: Transfer, packet: &[u8], room: usize, form: Form) -> Verdict
-    ensures { λ r. ⌜ r ≡ judgeForm transfer room (packetItems (now (packet .entry))) form ⌝ }
+    ensures { λ r. ⌜ r ≡ asVerdict (judgeForm transfer room (packetItems (now (packet .entry))) (formBy form)) ⌝ }
 {
     let Form::Good {
         offset,
@@ -79,7 +80,7 @@ fn judge_form(transfer: Transfer, packet: &[u8], room: usize, form: Form) -> Ver
 
 // Tests where a fragment ends.
 fn judge_end(room: usize, offset: usize, count: usize, declared: Declared, last: bool) -> Verdict
-    ensures { λ r. ⌜ r ≡ judgeEnd room offset count declared last ⌝ }
+    ensures { λ r. ⌜ r ≡ asVerdict (judgeEnd room offset count declared last) ⌝ }
 {
     let long = is_long(room, offset, count, declared);
     if long {

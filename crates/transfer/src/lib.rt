@@ -5,8 +5,6 @@ mod judging;
 mod state;
 mod taking;
 
-pub use fragment::BINARY_KIND;
-pub use fragment::LENGTH_KIND;
 pub use judging::FRAGMENT;
 pub use state::Declared;
 pub use state::LOCATION_ROOM;

@@ -1,12 +1,12 @@
 // The two calls: a transfer is started with a location, then packets are given to it.
 ghost use mathlib.Core.Path.{_≡_};
 ghost use Rattle.transfer.specs.Transfer.{refusedWith, startOf, Takes};
-use crate::fragment::BINARY_KIND;
 use crate::judging::Verdict;
 use crate::judging::judge;
 use crate::state::Transfer;
 use crate::state::advanced;
 use crate::state::fresh;
+use packet::BINARY_KIND;
 use packet::value;
 use refusals::BAD_FRAGMENT;
 

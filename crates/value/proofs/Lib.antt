@@ -1,3 +1,2 @@
-pub mod KnownAnswers
 pub mod SignLaws
 pub mod ValueLaws

@@ -17,8 +17,10 @@ use mir.Syntax.{w64}
 use mir.Val.{toZ}
 use mir.ValLaws.{toZ-pos, toZ-neg}
 use Rattle.slices.proofs.Impossible.{impossible}
+use Rattle.slices.specs.HighFirst.{wordFrom, wordOf}
 use Rattle.value.specs.declared.Value.the-variants.{Number, Bad}
-use Rattle.value.specs.Value.{asValue, wordFrom, wordOf, twos, leastNegative, numberOf, booleanOf}
+use Rattle.value.specs.Steps.{leastNegative}
+use Rattle.value.specs.Value.{asValue, twos, numberOf, booleanOf}
 
 -- one byte more of the word is read
 pub word-step : (bytes : List ℕ) (sum i : ℕ) → i < length bytes → wordFrom (sum * 256 + getD bytes i 0) (drop (i + 1) bytes) ≡ wordFrom sum (drop i bytes)

@@ -1,24 +1,16 @@
 -- 01, Items and packets: "Value types: Integer (02) and Cents (16) of 1, 2, 4 or 8 bytes, signed, high byte first; Boolean
 -- (0f) of one byte, 0 or 1. Others, 03 among them, are refusal 13."
-use Prim.Native.Nat.{ℕ, _+_, _*_, _^_, _<_}
-use mathlib.Core.Path.{_≡_}
+use Prim.Native.Nat.{ℕ, _*_, _^_}
 use mathlib.Core.Bool.{cond, _||_}
 use mathlib.Core.List.{List, [], _∷_}
 use mathlib.Core.Option.{Option, some, none}
 use lib.Dec.{eqb, ltb}
 use lib.IntN.{ℤ, pos, _-ℤ_}
 use lib.ListN.{length}
+use Rattle.slices.specs.HighFirst.{wordOf}
+use Rattle.packet.specs.ItemTypes.{integerKind, booleanKind, centsKind}
 use Rattle.value.specs.declared.Value.{Value}
 use Rattle.value.specs.declared.Value.the-variants.{Number, Bad}
-
--- the bytes behind those that gave sum: the high byte first, so each byte makes what stands before it 256 times as much
-abbrev pub wordFrom : ℕ → List ℕ → ℕ
-wordFrom sum [] = sum
-wordFrom sum (byte ∷ bytes) = wordFrom (sum * 256 + byte) bytes
-
--- the bytes as one number without a sign
-abbrev pub wordOf : List ℕ → ℕ
-wordOf bytes = wordFrom 0 bytes
 
 -- two's complement: of the full count of words the lower half are themselves, the upper half are less by the full count
 abbrev pub twos : ℕ → ℕ → ℤ
@@ -40,19 +32,10 @@ booleanOf (byte ∷ next ∷ bytes) = none
 
 -- the value of an item of type kind, none where that is no good value
 unfoldable pub valueOf : ℕ → List ℕ → Option ℤ
-valueOf kind bytes = cond (eqb kind 0x02 || eqb kind 0x16) (numberOf bytes) (cond (eqb kind 0x0f) (booleanOf bytes) none)
+valueOf kind bytes =
+    cond (eqb kind integerKind || eqb kind centsKind) (numberOf bytes) (cond (eqb kind booleanKind) (booleanOf bytes) none)
 
 -- how the code answers a value
 abbrev pub asValue : Option ℤ → Value
 asValue (some number) = Number number
 asValue none = Bad
-
--- the word of n bytes is that of its bytes, and below 256 ^ n
-pub record Word (bytes : List ℕ) (word : ℕ) : Type 0 where
-  pub is : word ≡ wordOf bytes
-  pub small : word < 256 ^ length bytes
-
--- half of 256 ^ n, from where words of n bytes stand for negative numbers; 0 where no number has n bytes
-abbrev pub leastNegative : ℕ → ℕ
-leastNegative n =
-    cond (eqb n 1) 0x80 (cond (eqb n 2) 0x8000 (cond (eqb n 4) 0x80000000 (cond (eqb n 8) 0x8000000000000000 0)))

@@ -3,14 +3,11 @@ ghost use mathlib.Core.Path.{_≡_};
 ghost use Prim.Native.Nat.{_*_, _^_, _≤_, _<_};
 ghost use lib.IntN.{natAbs};
 ghost use lib.ListN.{length};
-ghost use Rattle.value.specs.Value.{twos, leastNegative, numberOf, booleanOf, valueOf, asValue, Word};
-
-// The types of value items, as 01 numbers them. `type` is a keyword, so a type byte is called `kind`.
-pub const INTEGER: u8 = 0x02;
-
-pub const BOOLEAN: u8 = 0x0f;
-
-pub const CENTS: u8 = 0x16;
+ghost use Rattle.value.specs.Steps.{leastNegative, Word};
+ghost use Rattle.value.specs.Value.{twos, numberOf, booleanOf, valueOf, asValue};
+use packet::BOOLEAN_KIND;
+use packet::CENTS_KIND;
+use packet::INTEGER_KIND;
 
 // What a value item says: its number, or that it is no good value.
 pub enum Value {
@@ -22,13 +19,13 @@ pub enum Value {
 pub fn read_value(kind: u8, bytes: &[u8]) -> Value
     ensures { λ r. ⌜ r ≡ asValue (valueOf kind (now (bytes .entry))) ⌝ }
 {
-    if kind == INTEGER {
+    if kind == INTEGER_KIND {
         return number(bytes);
     }
-    if kind == CENTS {
+    if kind == CENTS_KIND {
         return number(bytes);
     }
-    if kind == BOOLEAN {
+    if kind == BOOLEAN_KIND {
         return boolean(bytes);
     }
     Value::Bad

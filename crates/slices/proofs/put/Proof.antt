@@ -60,8 +60,9 @@ loop-less c = omega arith
 
 loop-again : tie.Need-loop-again Inv-loop μ-loop
 loop-again c =
-    let loop = c .before .before .loop in
-    let args = c .before .before .before .before .before .before .args in
+    let turn = c .before .before in
+    let loop = turn .loop in
+    let args = turn .before .before .before .before .args in
     let more : loop .i < length (args .src .now) = omega arith in
     (omega arith, simp length-set (loop .inv .1), store (loop .dst) (args .src .now) (args .at) (loop .i) more ∙ loop .inv .2)
 

@@ -5,7 +5,7 @@ use mathlib.Core.List.{[]}
 use Prim.Native.Nat.{_-_, _^_, _≤_, _<_}
 use native.Mathlib.Omega.{arith}
 use lib.ListN.{length, drop, getD, drop-of-length-le}
-use Rattle.value.specs.Value.{wordFrom}
+use Rattle.slices.specs.HighFirst.{wordFrom}
 use Rattle.value.proofs.ValueLaws.{word-step, word-grows, word-fits}
 use Rattle.value.proofs.word.Statement.{statement}
 use Rattle.value.proofs.word.Tie as tie

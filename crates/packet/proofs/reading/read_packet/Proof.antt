@@ -7,6 +7,7 @@ use native.Mathlib.Omega.{arith}
 use borrow.Author.Needs.{needs}
 use borrow.Author.Tests.{not-true, not-false}
 use lib.ListN.{length}
+use Rattle.packet.specs.ItemTypes.{eofKind}
 use Rattle.packet.specs.Packet.{isData}
 use Rattle.packet.proofs.PacketLaws.{data-length, reading-no-data, reading-bad-items, reading-packet}
 use Rattle.packet.proofs.reading.read_packet.Statement.{statement}
@@ -16,7 +17,7 @@ is-data-requires : tie.Need-is-data-requires
 is-data-requires c κs = search needs
 
 returns : tie.Need-returns
-returns c = reading-no-data (c .before .before .before .args .s .now) 0x14 (sym (c .before .is-data .ensures) ∙ not-true _ (c .if1 .taken))
+returns c = reading-no-data (c .before .before .before .args .s .now) eofKind (sym (c .before .is-data .ensures) ∙ not-true _ (c .if1 .taken))
 
 is-data : (c : tie.Else1) → isData (c .before .before .before .args .s .now) ≡ true
 is-data c = sym (c .before .is-data .ensures) ∙ not-false _ (c .if1 .left)
@@ -35,7 +36,9 @@ enum-told-2 c = search needs
 
 returns-2 : tie.Need-returns-2
 returns-2 c =
-    reading-bad-items (c .before .before .before .before .before .before .args .s .now) 0x14 (is-data (c .before .before .before)) (sym (c .before .before .tally-packet .ensures) ∙ c .enum-told2 .given .1)
+    let tally = c .before .before in
+    let test = tally .before in
+    reading-bad-items (test .before .before .before .args .s .now) eofKind (is-data test) (sym (tally .tally-packet .ensures) ∙ c .enum-told2 .given .1)
 
 shared-slice-read-opcode : tie.Need-shared-slice-read-opcode
 shared-slice-read-opcode c = let h = room (c .before .before .before .before) in omega arith
@@ -44,7 +47,10 @@ shared-slice-read-pair : tie.Need-shared-slice-read-pair
 shared-slice-read-pair c = let h = room (c .before .before .before .before .before) in omega arith
 
 shared-slice-read-pair-2 : tie.Need-shared-slice-read-pair-2
-shared-slice-read-pair-2 c = let h = room (c .before .before .before .before .before .before) in omega arith
+shared-slice-read-pair-2 c =
+    let tally = c .before .before .before .before .before in
+    let h = room (tally .before) in
+    omega arith
 
 pair-requires : tie.Need-pair-requires
 pair-requires c κs = search needs
@@ -54,7 +60,7 @@ returns-3 c =
     let told = c .before .before .before .before in
     let tally = told .before .before in
     rw (c .pair .ensures)
-    (reading-packet (tally .before .before .before .before .args .s .now) 0x14 (is-data (tally .before)) (sym (tally .tally-packet .ensures) ∙ told .enum-told .given .1))
+    (reading-packet (tally .before .before .before .before .args .s .now) eofKind (is-data (tally .before)) (sym (tally .tally-packet .ensures) ∙ told .enum-told .given .1))
 
 pub read-packet-spec : {M : Type 1} → statement M
 read-packet-spec =

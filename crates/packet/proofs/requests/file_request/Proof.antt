@@ -1,9 +1,11 @@
 -- `packet::requests::file_request` meets its contract: behind the location's item stand the bytes of the Offset, if one is given.
 use borrow.Author.Needs.{needs}
+use lib.ListN.{length}
 use Rattle.packet.specs.Items.{itemBytes, itemsBytes}
 use Rattle.packet.specs.Packet.{packetBytes}
 use Rattle.packet.specs.Requests.{fileRequest, filePacket, locationItem, offsetItem, offsetItems}
 use Rattle.packet.specs.WriterSteps.{locatedRequest}
+use Rattle.packet.proofs.WriteLaws.{file-given}
 use Rattle.packet.proofs.requests.file_request.Statement.{statement}
 use Rattle.packet.proofs.requests.file_request.Tie as tie
 
@@ -48,8 +50,12 @@ same-length-2 : tie.Need-same-length-2
 same-length-2 c = search needs
 
 returns-2 : tie.Need-returns-2
-unfolding fileRequest locatedRequest packetBytes itemsBytes itemBytes filePacket locationItem offsetItem offsetItems
-returns-2 c = rw (c .before .before .before .before .before .before .offset .given .1) (c .before .before .write-located2 .ensures)
+returns-2 c =
+    let written = c .before .before in
+    let given = written .before .before .before .before in
+    let told = given .offset .given in
+    let args = given .before .before .before .before .args in
+    rw (told .1, ← file-given (args .id) (args .location .now) (told .0 .0) (length (args .out .now))) (written .write-located2 .ensures)
 
 pub file-request-spec : {M : Type 1} → statement M
 file-request-spec =

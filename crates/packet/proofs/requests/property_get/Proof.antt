@@ -10,7 +10,8 @@ use Rattle.packet.specs.Packet.{packetBytes}
 use Rattle.packet.specs.Names.{validName}
 use Rattle.packet.specs.Requests.{propertyGet, getPacket, nameItem}
 use Rattle.packet.proofs.NameLaws.{name-size}
-use Rattle.packet.proofs.WriteLaws.{writes-nothing}
+use Rattle.refusals.specs.Numbers.{badName}
+use Rattle.slices.proofs.WrittenLaws.{refuses}
 use Rattle.packet.proofs.requests.property_get.Statement.{statement}
 use Rattle.packet.proofs.requests.property_get.Tie as tie
 
@@ -22,7 +23,7 @@ unfolding propertyGet
 returns c =
     let args = c .before .before .before .before .args in
     let bad : validName (args .name .now) ≡ false = sym (c .before .valid-name .ensures) ∙ not-true _ (c .if1 .taken) in
-    writes-nothing (propertyGet (args .id) (args .name .now) (length (args .out .now))) 12 (args .out .now) (rw bad)
+    refuses (propertyGet (args .id) (args .name .now) (length (args .out .now))) badName (args .out .now) (rw bad)
 
 good : (c : tie.Else1) → validName (c .before .before .before .before .args .name .now) ≡ true
 good c = sym (c .before .valid-name .ensures) ∙ not-false _ (c .if1 .left)

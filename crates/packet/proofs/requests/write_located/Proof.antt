@@ -8,7 +8,8 @@ use lib.ListN.{length}
 use Rattle.packet.specs.Names.{validLocation}
 use Rattle.packet.specs.WriterSteps.{locatedRequest}
 use Rattle.packet.proofs.NameLaws.{location-size}
-use Rattle.packet.proofs.WriteLaws.{writes-nothing}
+use Rattle.refusals.specs.Numbers.{badFragment}
+use Rattle.slices.proofs.WrittenLaws.{refuses}
 use Rattle.packet.proofs.requests.write_located.Statement.{statement}
 use Rattle.packet.proofs.requests.write_located.Tie as tie
 
@@ -20,7 +21,7 @@ unfolding locatedRequest
 returns c =
     let args = c .before .before .before .before .before .args in
     let bad : validLocation (args .location .now) ≡ false = sym (c .before .valid-location .ensures) ∙ not-true _ (c .if1 .taken) in
-    writes-nothing (locatedRequest (args .opcode) (args .id) (args .location .now) (args .further .now) (length (args .out .now))) 20 (args .out .now) (rw bad)
+    refuses (locatedRequest (args .opcode) (args .id) (args .location .now) (args .further .now) (length (args .out .now))) badFragment (args .out .now) (rw bad)
 
 good : (c : tie.Else1) → validLocation (c .before .before .before .before .before .args .location .now) ≡ true
 good c = sym (c .before .valid-location .ensures) ∙ not-false _ (c .if1 .left)

@@ -44,17 +44,16 @@ same-length c = search needs
 
 returns-2 : tie.Need-returns-2
 returns-2 c =
-    let args = c .before .before .before .before .before .before .before .before .before .before .before .before .before .before .before .before .before .before .before .before .before .before .args in
+    let fourth = c .before .before in
+    let third = fourth .before .before .before .before in
+    let second = third .before .before .before .before in
+    let first = second .before .before .before .before in
+    let test = first .before .before .before in
+    let args = test .before .before .before .before .before .args in
     packet-put (args .opcode) (args .id) (args .front .now) (args .value .now) (args .further .now) (args .out .now)
-    (c .before .before .before .before .before .before .before .before .before .before .before .before .before .before .put .last .0)
-    (c .before .before .before .before .before .before .before .before .before .before .put2 .last .0)
-    (c .before .before .before .before .before .before .put3 .last .0)
-    (c .before .before .put4 .last .0)
-    (c .before .before .before .before .before .before .before .before .before .before .before .before .before .before .before .before .before .if1 .left)
-    (c .before .before .before .before .before .before .before .before .before .before .before .before .before .before .put .ensures)
-    (c .before .before .before .before .before .before .before .before .before .before .put2 .ensures)
-    (c .before .before .before .before .before .before .put3 .ensures)
-    (c .before .before .put4 .ensures)
+    (first .put .last .0) (second .put2 .last .0) (third .put3 .last .0) (fourth .put4 .last .0)
+    (test .if1 .left)
+    (first .put .ensures) (second .put2 .ensures) (third .put3 .ensures) (fourth .put4 .ensures)
 
 pub write-packet-spec : {M : Type 1} → statement M
 write-packet-spec =

@@ -2,12 +2,17 @@
 use mathlib.Core.Path.{_≡_, sym, ap, _∙_}
 use mathlib.Core.Bool.{true}
 use mathlib.Core.List.{List}
+use mathlib.Core.Option.{Option, none, some}
+use Prim.Native.Nat.{ℕ}
 use borrow.Author.Tests.{not-true, not-false}
+use Rattle.packet.specs.ItemTypes.{offsetKind}
 use Rattle.packet.specs.Items.{Item, valueIn}
 use Rattle.packet.specs.Names.{validLocation}
 use Rattle.packet.specs.Packet.{packetItems}
-use Rattle.transfer.specs.Fragment.{offsetKind, numberOf, rightItems, rightLocation, formAt, formOf}
+use Rattle.transfer.specs.Fragment.{numberOf, rightItems, rightLocation, formAt, formOf}
+use Rattle.transfer.specs.Steps.{asNumber, asForm}
 use Rattle.transfer.proofs.FormLaws.{form-items, form-location, form-binary, form-at}
+use Rattle.transfer.proofs.StepLaws.{number-told, no-number-told}
 use borrow.Author.Needs.{needs}
 use Rattle.transfer.proofs.fragment.read_form.Statement.{statement}
 use Rattle.transfer.proofs.fragment.read_form.Tie as tie
@@ -25,26 +30,35 @@ located c = c .valid-location .ensures ∙ ap validLocation (c .before .value .e
 location : (c : tie.Else2) → rightLocation (items (c .before .before .before .before)) ≡ true
 location c = sym (located (c .before)) ∙ not-false _ (c .if2 .left)
 
+-- the tests that were passed where the Offset has been read
+abbrev third : tie.After-read-number → tie.Else3
+third c = c .before .before
+
+abbrev second : tie.After-read-number → tie.Else2
+second c = third c .before .before
+
+abbrev first : tie.After-read-number → tie.Else1
+first c = second c .before .before .before
+
+abbrev items-read : tie.After-read-number → List Item
+items-read c = items (first c .before)
+
 -- what the Offset says
-number : (c : tie.After-read-number) → c .read-number .result ≡ numberOf (valueIn offsetKind (items (c .before .before .before .before .before .before .before .before)))
-number c = c .read-number .ensures ∙ ap numberOf (c .before .value2 .ensures)
+number : (c : tie.After-read-number) → c .read-number .result ≡ asNumber (numberOf (valueIn offsetKind (items-read c)))
+number c = c .read-number .ensures ∙ ap (λ (bytes : List ℕ). asNumber (numberOf bytes)) (c .before .value2 .ensures)
 
 -- past the three tests the form goes by the Offset
-formed :
-    (c : tie.After-read-number)
-    → formOf (items (c .before .before .before .before .before .before .before .before))
-    ≡ formAt (items (c .before .before .before .before .before .before .before .before)) (numberOf (valueIn offsetKind (items (c .before .before .before .before .before .before .before .before))))
-formed c =
-    let third = c .before .before in
-    let second = third .before .before in
-    let first = second .before .before .before in
-    form-at (items (first .before)) (right first) (location second) (sym (third .before .right-binary .ensures) ∙ not-false _ (third .if3 .left))
+formed : (c : tie.After-read-number) (offset : Option ℕ) → numberOf (valueIn offsetKind (items-read c)) ≡ offset
+    → asForm (formAt (items-read c) offset) ≡ asForm (formOf (items-read c))
+formed c offset said =
+    let binary = sym (third c .before .right-binary .ensures) ∙ not-false _ (third c .if3 .left) in
+    sym (ap asForm (form-at (items-read c) (right (first c)) (location (second c)) binary ∙ ap (formAt (items-read c)) said))
 
 right-items-requires : tie.Need-right-items-requires
 right-items-requires c κs = search needs
 
 returns : tie.Need-returns
-returns c = sym (form-items (items (c .before)) (sym (c .before .right-items .ensures) ∙ not-true _ (c .if1 .taken)))
+returns c = sym (ap asForm (form-items (items (c .before)) (sym (c .before .right-items .ensures) ∙ not-true _ (c .if1 .taken))))
 
 value-requires : tie.Need-value-requires
 value-requires c κs = search needs
@@ -54,17 +68,17 @@ valid-location-requires c κs = search needs
 
 returns-2 : tie.Need-returns-2
 returns-2 c =
-    let first = c .before .before .before in
-    sym (form-location (items (first .before)) (right first) (sym (located (c .before)) ∙ not-true _ (c .if2 .taken)))
+    let test = c .before .before .before in
+    sym (ap asForm (form-location (items (test .before)) (right test) (sym (located (c .before)) ∙ not-true _ (c .if2 .taken))))
 
 right-binary-requires : tie.Need-right-binary-requires
 right-binary-requires c κs = search needs
 
 returns-3 : tie.Need-returns-3
 returns-3 c =
-    let second = c .before .before in
-    let first = second .before .before .before in
-    sym (form-binary (items (first .before)) (right first) (location second) (sym (c .before .right-binary .ensures) ∙ not-true _ (c .if3 .taken)))
+    let later = c .before .before in
+    let test = later .before .before .before in
+    sym (ap asForm (form-binary (items (test .before)) (right test) (location later) (sym (c .before .right-binary .ensures) ∙ not-true _ (c .if3 .taken))))
 
 value-requires-2 : tie.Need-value-requires-2
 value-requires-2 c κs = search needs
@@ -82,7 +96,7 @@ returns-4 : tie.Need-returns-4
 unfolding formAt
 returns-4 c =
     let read = c .before .before in
-    sym (formed read ∙ ap (formAt (items (read .before .before .before .before .before .before .before .before))) (sym (number read) ∙ c .enum-told .given .1))
+    formed read none (no-number-told _ (sym (number read) ∙ c .enum-told .given .1))
 
 read-length-requires : tie.Need-read-length-requires
 read-length-requires c κs = search needs
@@ -90,8 +104,8 @@ read-length-requires c κs = search needs
 returns-5 : tie.Need-returns-5
 returns-5 c =
     let read = c .before .before .before .before in
-    c .read-length .ensures
-    ∙ sym (formed read ∙ ap (formAt (items (read .before .before .before .before .before .before .before .before))) (sym (number read) ∙ c .before .before .offset .given .1))
+    let told = c .before .before .offset .given in
+    c .read-length .ensures ∙ formed read (some (told .0 .0)) (number-told _ (told .0 .0) (sym (number read) ∙ told .1))
 
 pub read-form-spec : {M : Type 1} → statement M
 read-form-spec =

@@ -1,6 +1,7 @@
 -- `transfer::fragment::read_number` meets its contract: each length of the bytes has its law.
 use mathlib.Core.Path.{sym, ap, _∙_}
 use native.Mathlib.Omega.{arith}
+use Rattle.transfer.specs.Steps.{asNumber}
 use Rattle.transfer.specs.declared.fragment.Number.the-variants.{Is}
 use Rattle.transfer.proofs.FormLaws.{number-one, number-two, number-four, number-none}
 use borrow.Author.Needs.{needs}
@@ -14,7 +15,7 @@ cast-byte : tie.Need-cast-byte
 cast-byte c = omega (arith, c .shared-slice-known2 .given 0)
 
 returns : tie.Need-returns
-returns c = sym (number-one (c .before .before .before .args .bytes .now) (c .before .if1 .taken))
+returns c = sym (ap asNumber (number-one (c .before .before .before .args .bytes .now) (c .before .if1 .taken)))
 
 shared-slice-read-pair : tie.Need-shared-slice-read-pair
 shared-slice-read-pair c = search needs
@@ -31,7 +32,7 @@ cast-word c = search needs
 returns-2 : tie.Need-returns-2
 returns-2 c =
     let test = c .before .before .before in
-    ap Is (c .pair .ensures) ∙ sym (number-two (test .before .before .before .args .bytes .now) (test .if2 .taken))
+    ap Is (c .pair .ensures) ∙ sym (ap asNumber (number-two (test .before .before .before .args .bytes .now) (test .if2 .taken)))
 
 shared-slice-read-pair-3 : tie.Need-shared-slice-read-pair-3
 shared-slice-read-pair-3 c = search needs
@@ -67,12 +68,12 @@ returns-3 : tie.Need-returns-3
 returns-3 c =
     let high = c .before .before .before in
     let test = high .before .before .before in
-    rw (high .pair2 .ensures, c .pair3 .ensures) (sym (number-four (test .before .before .before .before .args .bytes .now) (test .if3 .taken)))
+    rw (high .pair2 .ensures, c .pair3 .ensures) (sym (ap asNumber (number-four (test .before .before .before .before .args .bytes .now) (test .if3 .taken))))
 
 returns-4 : tie.Need-returns-4
 returns-4 c =
     let first = c .before .before in
-    sym (number-none (first .before .before .args .bytes .now) (first .if1 .left) (c .before .if2 .left) (c .if3 .left))
+    sym (ap asNumber (number-none (first .before .before .args .bytes .now) (first .if1 .left) (c .before .if2 .left) (c .if3 .left)))
 
 pub read-number-spec : {M : Type 1} → statement M
 read-number-spec =

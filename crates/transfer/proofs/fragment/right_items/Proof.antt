@@ -3,9 +3,9 @@ use mathlib.Core.Path.{_≡_, sym, _∙_}
 use mathlib.Core.List.{List}
 use Prim.Native.Nat.{_≤_, _<_}
 use native.Mathlib.Omega.{arith}
-use Rattle.packet.specs.Items.{Item, eofKind, countOf}
+use Rattle.packet.specs.ItemTypes.{binaryKind, offsetKind, lengthKind, locationKind, eofKind}
+use Rattle.packet.specs.Items.{Item, countOf}
 use Rattle.packet.specs.Packet.{packetItems}
-use Rattle.transfer.specs.Fragment.{binaryKind, offsetKind, lengthKind, locationKind}
 use Rattle.transfer.proofs.FormLaws.{items-location, items-offset, items-binary, items-lengths, items-ends, items-all}
 use borrow.Author.Needs.{needs}
 use Rattle.transfer.proofs.fragment.right_items.Statement.{statement}

@@ -7,10 +7,14 @@ use Prim.Native.Nat.{ℕ}
 use lib.ListN.{length}
 use borrow.Author.Tests.{not-true, not-false}
 use Rattle.slices.specs.Same.{sameBytes}
+use Rattle.packet.specs.ItemTypes.{binaryKind, locationKind}
 use Rattle.packet.specs.Items.{Item, valueIn}
 use Rattle.packet.specs.Packet.{packetItems}
-use Rattle.transfer.specs.Fragment.{binaryKind, locationKind}
-use Rattle.transfer.specs.Transfer.{locationOf, judgeEnd, judgeForm}
+use Rattle.transfer.specs.Fragment.{good}
+use Rattle.transfer.specs.Transfer.{Verdict, locationOf, judgeEnd, judgeForm}
+use Rattle.transfer.specs.Steps.{formBy, asVerdict}
+use Rattle.transfer.specs.declared.fragment.Form.{Form}
+use Rattle.transfer.specs.declared.state.Transfer.{Transfer}
 use Rattle.transfer.specs.declared.state.Declared.{Declared}
 use Rattle.transfer.proofs.JudgeLaws.{form-other, form-gap, form-next}
 use borrow.Author.Needs.{needs}
@@ -20,13 +24,26 @@ use Rattle.transfer.proofs.judging.judge_form.Tie as tie
 abbrev items : tie.After-form → List Item
 items c = packetItems (c .before .before .before .args .packet .now)
 
--- the test of the location
-tested : (c : tie.After-is-of) → c .is-of .result ≡ sameBytes (valueIn locationKind (items (c .before .before .before))) (locationOf (c .before .before .before .before .before .before .args .transfer))
-tested c =
-    let transfer = c .before .before .before .before .before .before .args .transfer in
-    c .is-of .ensures ∙ ap (λ (value : List ℕ). sameBytes value (locationOf transfer)) (c .before .value .ensures)
+abbrev transfer : tie.After-form → Transfer
+transfer c = c .before .before .before .args .transfer
 
-ours : (c : tie.Else1) → sameBytes (valueIn locationKind (items (c .before .before .before .before))) (locationOf (c .before .before .before .before .before .before .before .args .transfer)) ≡ true
+-- the verdict on the form that was found good
+judged : (c : tie.After-form) (v : Verdict) →
+    (let args = c .before .before .before .args in
+    let given = c .form .given in
+    judgeForm (transfer c) (args .room) (items c) (good (given .0 .0) (given .0 .1 .0) (given .0 .1 .1 .0)) ≡ v → asVerdict v ≡ asVerdict (judgeForm (transfer c) (args .room) (items c) (formBy (args .form))))
+judged c v e =
+    let args = c .before .before .before .args in
+    sym (ap (λ (f : Form). asVerdict (judgeForm (transfer c) (args .room) (items c) (formBy f))) (c .form .given .1) ∙ ap asVerdict e)
+
+-- the test of the location
+abbrev formed : tie.After-is-of → tie.After-form
+formed c = c .before .before .before
+
+tested : (c : tie.After-is-of) → c .is-of .result ≡ sameBytes (valueIn locationKind (items (formed c))) (locationOf (transfer (formed c)))
+tested c = c .is-of .ensures ∙ ap (λ (value : List ℕ). sameBytes value (locationOf (transfer (formed c)))) (c .before .value .ensures)
+
+ours : (c : tie.Else1) → sameBytes (valueIn locationKind (items (formed (c .before)))) (locationOf (transfer (formed (c .before)))) ≡ true
 ours c = sym (tested (c .before)) ∙ not-false _ (c .if1 .left)
 
 enum-known-form : tie.Need-enum-known-form
@@ -51,7 +68,7 @@ returns-2 c =
     let args = form .before .before .before .args in
     let given = form .form .given in
     let other = sym (tested (c .before)) ∙ not-true _ (c .if1 .taken) in
-    sym (ap (judgeForm (args .transfer) (args .room) (items form)) (given .1) ∙ form-other (args .transfer) (args .room) (items form) (given .0 .0) (given .0 .1 .0) (given .0 .1 .1 .0) other)
+    judged form _ (form-other (transfer form) (args .room) (items form) (given .0 .0) (given .0 .1 .0) (given .0 .1 .1 .0) other)
 
 goes-on-requires : tie.Need-goes-on-requires
 goes-on-requires c κs = search needs
@@ -63,7 +80,7 @@ returns-3 c =
     let args = form .before .before .before .args in
     let given = form .form .given in
     let gap = sym (c .before .goes-on .ensures) ∙ not-true _ (c .if2 .taken) in
-    sym (ap (judgeForm (args .transfer) (args .room) (items form)) (given .1) ∙ form-gap (args .transfer) (args .room) (items form) (given .0 .0) (given .0 .1 .0) (given .0 .1 .1 .0) (ours test) gap)
+    judged form _ (form-gap (transfer form) (args .room) (items form) (given .0 .0) (given .0 .1 .0) (given .0 .1 .1 .0) (ours test) gap)
 
 value-requires-2 : tie.Need-value-requires-2
 value-requires-2 c κs = search needs
@@ -85,9 +102,9 @@ returns-4 c =
     let given = form .form .given in
     let next = sym (going .before .goes-on .ensures) ∙ not-false _ (going .if2 .left) in
     c .judge-end .ensures
-    ∙ ap (λ (value : List ℕ). judgeEnd (args .room) (given .0 .0) (length value) (known .known-length .result) (given .0 .1 .1 .0)) (bytes .value2 .ensures)
-    ∙ ap (λ (declared : Declared). judgeEnd (args .room) (given .0 .0) (length (valueIn binaryKind (items form))) declared (given .0 .1 .1 .0)) (known .known-length .ensures)
-    ∙ sym (ap (judgeForm (args .transfer) (args .room) (items form)) (given .1) ∙ form-next (args .transfer) (args .room) (items form) (given .0 .0) (given .0 .1 .0) (given .0 .1 .1 .0) (ours test) next)
+    ∙ ap (λ (value : List ℕ). asVerdict (judgeEnd (args .room) (given .0 .0) (length value) (known .known-length .result) (given .0 .1 .1 .0))) (bytes .value2 .ensures)
+    ∙ ap (λ (declared : Declared). asVerdict (judgeEnd (args .room) (given .0 .0) (length (valueIn binaryKind (items form))) declared (given .0 .1 .1 .0))) (known .known-length .ensures)
+    ∙ judged form _ (form-next (transfer form) (args .room) (items form) (given .0 .0) (given .0 .1 .0) (given .0 .1 .1 .0) (ours test) next)
 
 pub judge-form-spec : {M : Type 1} → statement M
 judge-form-spec =

@@ -4,6 +4,7 @@ use mathlib.Core.List.{List}
 use Prim.Native.Nat.{ℕ}
 use Rattle.slices.specs.Put.{putAt}
 use Rattle.transfer.proofs.JudgeLaws.{takes-nothing, takes-fragment}
+use Rattle.transfer.proofs.StepLaws.{accepted-told, refused-told}
 use borrow.Author.Needs.{needs}
 use Rattle.transfer.proofs.taking.take.Statement.{statement}
 use Rattle.transfer.proofs.taking.take.Tie as tie
@@ -34,7 +35,7 @@ returns c =
     let told = c .before .before .number .given in
     let judged = c .before .before .before .before in
     let args = judged .before .before .before .args in
-    rw (c .refused .ensures) (takes-nothing (args .transfer) (args .packet .now) (args .file .now) (told .0 .0) (sym (judged .judge .ensures) ∙ told .1))
+    rw (c .refused .ensures) (takes-nothing (args .transfer) (args .packet .now) (args .file .now) (told .0 .0) (refused-told _ (told .0 .0) (sym (judged .judge .ensures) ∙ told .1)))
 
 same-length : tie.Need-same-length
 same-length c = search needs
@@ -47,8 +48,9 @@ returns-2 c =
     let judged = value .before .before .before .before in
     let args = judged .before .before .before .args in
     let written = put .put .ensures ∙ ap (λ (bytes : List ℕ). putAt (args .file .now) (told .0 .0) bytes) (value .value .ensures) in
+    let accepted = accepted-told _ (told .0 .0) (told .0 .1 .0) (told .0 .1 .1 .0) (told .0 .1 .1 .1 .0) (sym (judged .judge .ensures) ∙ told .1) in
     rw (c .advanced .ensures)
-    (takes-fragment (args .transfer) (args .packet .now) (args .file .now) (put .put .last .0) (told .0 .0) (told .0 .1 .0) (told .0 .1 .1 .0) (told .0 .1 .1 .1 .0) (sym (judged .judge .ensures) ∙ told .1) written)
+    (takes-fragment (args .transfer) (args .packet .now) (args .file .now) (put .put .last .0) (told .0 .0) (told .0 .1 .0) (told .0 .1 .1 .0) (told .0 .1 .1 .1 .0) accepted written)
 
 pub take-spec : {M : Type 1} → statement M
 take-spec =

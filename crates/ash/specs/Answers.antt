@@ -7,9 +7,7 @@ use Rattle.slices.specs.Put.{putAt}
 use Rattle.ash.specs.Stuffing as stuffing
 use Rattle.ash.specs.Stuffing.{payloadMax}
 use Rattle.ash.specs.Reading as reading
-use Rattle.ash.specs.Writing as writing
 use Rattle.ash.specs.declared.reader.FrameRead as read
-use Rattle.ash.specs.declared.writer.Written as written
 
 -- the reader's answer: control byte and the payload's length, or the refusal's number
 abbrev pub readAnswer : reading.Read → read.FrameRead
@@ -25,20 +23,6 @@ readPayload (reading.refused n) = []
 pub record ReadsAs (found : reading.Read) (out : List ℕ) (answer : read.FrameRead) (exit : List ℕ) : Type 0 where
   pub answers : answer ≡ readAnswer found
   pub output : exit ≡ putAt out 0 (readPayload found)
-
--- the writer's answer: the length of the frame, or the refusal's number
-abbrev pub writeAnswer : writing.Written → written.Written
-writeAnswer (writing.written sent) = written.the-variants.Length (length sent)
-writeAnswer (writing.refused n) = written.the-variants.Refused n
-
-abbrev pub writtenBytes : writing.Written → List ℕ
-writtenBytes (writing.written sent) = sent
-writtenBytes (writing.refused n) = []
-
--- what was written is answered, and put at the start of the output
-pub record WritesAs (result : writing.Written) (out : List ℕ) (answer : written.Written) (exit : List ℕ) : Type 0 where
-  pub answers : answer ≡ writeAnswer result
-  pub output : exit ≡ putAt out 0 (writtenBytes result)
 
 -- how many bytes of payload were unstuffed, or one more than any payload has where a rule was broken
 abbrev pub unstuffAnswer : stuffing.Unstuffed → ℕ

@@ -1,21 +1,21 @@
 -- A frame is written in parts: flag, stuffed parts of the content one behind the other, flag.
-use mathlib.Core.Path.{_≡_, refl, ap, _∙_}
+use mathlib.Core.Path.{_≡_, ap, _∙_}
 use mathlib.Core.List.{List, [], _∷_, _++_}
 use Prim.Native.Nat.{ℕ, suc, _+_, _≤_, _<_}
 use native.Mathlib.Omega.{arith}
 use lib.ListN.{length, set, length-append}
 use borrow.Author.Tests.{lt-ltb, le-ltb}
 use Rattle.refusals.specs.Numbers.{shortOutput, longPayload}
+use Rattle.slices.specs.Written.{written, refused}
 use Rattle.slices.specs.Put.{putAt}
 use Rattle.slices.proofs.EachLaws.{each-append}
 use Rattle.slices.proofs.PutLaws.{put-append}
+use Rattle.slices.proofs.WrittenLaws.{too-little-room, room-enough}
 use Rattle.crc.specs.Crc.{linkStart, crcOf, checkBytes}
 use Rattle.crc.proofs.CrcLaws.{crc-append}
 use Rattle.frame.specs.Stuffing.{flagByte, stuffByte, stuff}
 use Rattle.frame.specs.Content.{payloadMax, contentOf}
-use Rattle.frame.specs.Writing.{framed, Written, written, refused, writeContent, writeFrame}
-use Rattle.frame.specs.Answers.{WritesAs}
-use Rattle.frame.specs.declared.writer.Written.the-variants as answer
+use Rattle.frame.specs.Writing.{framed, writeContent, writeFrame}
 
 -- the check over the whole body goes on from that of its first two bytes
 pub content-parts : (kind sequence : ℕ) (payload : List ℕ)
@@ -59,11 +59,11 @@ assembled out a b c at-b at-c end p q r =
 module _ (room : ℕ) where
   pub content-no-room : (content : List ℕ) (n : ℕ) → length (framed content) ≡ n → room < n → writeContent room content ≡ refused shortOutput
   unfolding writeContent
-  content-no-room content n e h = rw (e, lt-ltb room n h)
+  content-no-room content n e h = too-little-room room (framed content) n e h
 
   pub content-room : (content : List ℕ) (n : ℕ) → length (framed content) ≡ n → n ≤ room → writeContent room content ≡ written (framed content)
   unfolding writeContent
-  content-room content n e h = rw (e, le-ltb room n h)
+  content-room content n e h = room-enough room (framed content) n e h
 
   module _ (kind sequence : ℕ) (payload : List ℕ) where
     pub payload-too-long : payloadMax < length payload → writeFrame room kind sequence payload ≡ refused longPayload
@@ -73,12 +73,3 @@ module _ (room : ℕ) where
     pub payload-allowed : length payload ≤ payloadMax → writeFrame room kind sequence payload ≡ writeContent room (contentOf kind sequence payload)
     unfolding writeFrame
     payload-allowed h = rw (le-ltb payloadMax (length payload) h)
-
--- a refusal is answered and leaves the output as it was
-pub refuses : (result : Written) (n : ℕ) (out : List ℕ) → result ≡ refused n → WritesAs result out (answer.Refused n) out
-refuses result n out e = rw e (record { answers = refl; output = refl })
-
--- a frame is answered by its length and put at the start
-pub writes : (result : Written) (sent out exit : List ℕ) (n : ℕ) → result ≡ written sent → n ≡ length sent → exit ≡ putAt out 0 sent
-    → WritesAs result out (answer.Length n) exit
-writes result sent out exit n e size put = rw e (record { answers = ap answer.Length size; output = put })

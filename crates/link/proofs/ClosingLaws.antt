@@ -11,12 +11,12 @@ use borrow.Author.Tests.{eq-eqb, ne-eqb}
 use Rattle.refusals.specs.Numbers.{unknownType}
 use Rattle.slices.proofs.Impossible.{impossible}
 use Rattle.slices.specs.Each.{each}
+use Rattle.slices.specs.Written.{written, WritesAs}
+use Rattle.slices.specs.declared.Written as declared
 use Rattle.crc.specs.Crc.{linkStart, crcOf}
 use Rattle.frame.specs.Stuffing.{stuff}
 use Rattle.frame.specs.Content.{frame, refused, contentOf, judged}
-use Rattle.frame.specs.Writing.{written, writeFrame}
-use Rattle.frame.specs.Answers.{WritesAs}
-use Rattle.frame.specs.declared.writer.Written as declared
+use Rattle.frame.specs.Writing.{writeFrame}
 use Rattle.frame.proofs.StuffLaws.{length-stuff}
 use Rattle.frame.proofs.WriteLaws.{length-framed, content-room, payload-allowed}
 use Rattle.link.specs.declared.counts.Counts.{Counts}
@@ -54,7 +54,7 @@ module _ (q : ℕ) (reply : List ℕ) (answer : declared.Written) (exit : List �
       let is = acknowledgement-written (length reply) q h in
       let w′ = rw is at w in
       let same : declared.the-variants.Length n ≡ declared.the-variants.Length (length (acknowledgement q)) = sym told ∙ w′ .answers in
-      record { answers = cc; replied = w′ .output }
+      record { answers = cc; replied = w′ .put }
 
   pub not-refused : (n : ℕ) → answer ≡ declared.the-variants.Refused n → ⊥
   not-refused n told =

@@ -1,7 +1,9 @@
 pub mod EachLaws
+pub mod EachPut
 pub mod Impossible
 pub mod Lent
 pub mod PartLaws
 pub mod PutLaws
 pub mod SameLaws
 pub mod TestLaws
+pub mod WrittenLaws

@@ -3,9 +3,10 @@
 use mathlib.Core.Path.{_≡_, sym, ap, _∙_}
 use lib.ListN.{length, take, replicate}
 use Rattle.slices.proofs.PutLaws.{put-first}
+use Rattle.slices.proofs.WrittenLaws.{refuses, writes}
 use Rattle.ash.specs.Stuffing.{stuff}
 use Rattle.ash.specs.Writing.{frameOf}
-use Rattle.ash.proofs.WriteLaws.{frame-length, frame-parts, payload-over, no-room, room-enough, refuses, writes}
+use Rattle.ash.proofs.WriteLaws.{frame-length, frame-parts, payload-over, no-room, room-enough}
 use borrow.Author.Needs.{needs}
 use Rattle.ash.proofs.writer.write_frame.Statement.{statement}
 use Rattle.ash.proofs.writer.write_frame.Tie as tie

@@ -8,7 +8,8 @@ use lib.ListN.{length, length-set}
 use Rattle.frame.specs.Stuffing.{stuff}
 use Rattle.frame.specs.Writing.{framed}
 use Rattle.frame.proofs.StuffLaws.{length-stuff}
-use Rattle.frame.proofs.WriteLaws.{framed-length, assembled, content-no-room, content-room, refuses, writes}
+use Rattle.slices.proofs.WrittenLaws.{refuses, writes}
+use Rattle.frame.proofs.WriteLaws.{framed-length, assembled, content-no-room, content-room}
 use borrow.Author.Needs.{needs}
 use Rattle.frame.proofs.writer.put_frame.Statement.{statement}
 use Rattle.frame.proofs.writer.put_frame.Tie as tie

@@ -1,7 +1,8 @@
 -- `frame::writer::write_frame` meets its contract: the check goes on over the payload from that of type and sequence, and what
 -- `put_frame` writes are the parts of the content.
 use lib.ListN.{length}
-use Rattle.frame.proofs.WriteLaws.{content-parts, payload-too-long, payload-allowed, refuses}
+use Rattle.slices.proofs.WrittenLaws.{refuses}
+use Rattle.frame.proofs.WriteLaws.{content-parts, payload-too-long, payload-allowed}
 use borrow.Author.Needs.{needs}
 use Rattle.frame.proofs.writer.write_frame.Statement.{statement}
 use Rattle.frame.proofs.writer.write_frame.Tie as tie

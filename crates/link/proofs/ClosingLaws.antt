@@ -21,7 +21,8 @@ use Rattle.frame.proofs.StuffLaws.{length-stuff}
 use Rattle.frame.proofs.WriteLaws.{length-framed, content-room, payload-allowed}
 use Rattle.link.specs.declared.counts.Counts.{Counts}
 use Rattle.link.specs.declared.receiver.Last.{Last}
-use Rattle.link.specs.Closing.{dataType, acknowledgementType, replyRoom, acknowledgement, repeats, refusedFrame, acknowledgementFrame, againFrame, newFrame, dataFrame, frameOutcome, closedBy, ClosesAs, AcknowledgesAs}
+use Rattle.link.specs.declared.closing.Closed.{Closed}
+use Rattle.link.specs.Closing.{dataType, acknowledgementType, replyRoom, acknowledgement, repeats, Outcome, refusedFrame, acknowledgementFrame, againFrame, newFrame, dataFrame, frameOutcome, closedBy, ClosesAs, AcknowledgesAs}
 
 -- of an acknowledgement's four bytes of content the type is not escaped
 stuffed-acknowledgement : (q h l : ℕ) → length (stuff (acknowledgementType ∷ q ∷ h ∷ l ∷ [])) ≤ 7
@@ -70,6 +71,11 @@ module _ (q : ℕ) (payload : List ℕ) (previous : Last) (before : Counts) wher
   pub data-new : repeats previous q ≡ false → dataFrame q payload previous before ≡ newFrame q payload before
   unfolding dataFrame
   data-new e = rw e
+
+-- a frame that is refused puts nothing
+pub refuses : (o : Outcome) (n : ℕ) (previous : Last) (before : Counts) (result : Closed) (reply packet : List ℕ)
+    → o ≡ refusedFrame n previous before → result ≡ closedBy (refusedFrame n previous before) → ClosesAs o reply packet result reply packet
+refuses o n previous before result reply packet e told = rw e (record { answers = told; replied = refl; handed-out = refl })
 
 -- an acknowledgement that came in puts nothing
 pub heard : (q size : ℕ) (previous : Last) (before : Counts) (reply packet : List ℕ)

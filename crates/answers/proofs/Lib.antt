@@ -1,2 +1,4 @@
 pub mod KnownAnswers
+pub mod KnownAshFrames
+pub mod KnownChecks
 pub mod KnownRuns

@@ -12,7 +12,7 @@ use Rattle.slices.specs.Written.{written}
 use Rattle.slices.proofs.WrittenLaws.{Wrote, wrote}
 use Rattle.slices.proofs.SameLaws.{same-refl}
 use Rattle.ash.specs.Reserved.{reserved, unescaped, rightlyEscaped}
-use Rattle.ash.specs.Stuffing.{payloadMax, stuff, payload}
+use Rattle.ash.specs.Stuffing.{payloadMax, stuff}
 use Rattle.ash.specs.Header.{escapeBits, headerEscape, sentByte, sentHeader, controlEscaped, lengthEscaped, noReservedBit, goodHeader}
 use Rattle.ash.specs.Check.{checkBytes}
 use Rattle.ash.specs.Writing.{frameOf, writeFrame}

@@ -11,7 +11,7 @@ use Rattle.refusals.specs.Numbers.{longContent, shortContent, badCheck}
 use Rattle.crc.specs.Crc.{linkStart, crcOf}
 use Rattle.frame.specs.Stuffing as stuffing
 use Rattle.frame.specs.Stuffing.{State, plain, escaped, Meaning, escapes-next, stands-for, faulty, meaning, Unstuffed, joined, taken, contentMax, unstuffFrom, unstuff}
-use Rattle.frame.specs.Content.{payloadOf, Read, frame, refused, judged}
+use Rattle.frame.specs.Content.{payloadOf, frame, refused, judged}
 use Rattle.frame.specs.Reading.{judgedContent, readRun}
 
 -- what unstuffing refuses by

@@ -1,7 +1,7 @@
 -- A call, one law for each way through the code: the room in the two buffers settles whether it is refused, and otherwise the
 -- walk and the frame that it ended make it.
 use mathlib.Core.Path.{_≡_, refl}
-use mathlib.Core.List.{List, []}
+use mathlib.Core.List.{List}
 use Prim.Native.Nat.{ℕ, _≤_, _<_}
 use borrow.Author.Tests.{lt-ltb, le-ltb}
 use Rattle.frame.specs.Content.{payloadMax}
@@ -9,7 +9,6 @@ use Rattle.link.specs.declared.walk.Walked.{Walked}
 use Rattle.link.specs.declared.receiver.Link.{Link}
 use Rattle.link.specs.declared.receiver.Received.{Received}
 use Rattle.link.specs.declared.closing.Closed.{Closed}
-use Rattle.link.specs.declared.receiver.Answer.the-variants as says
 use Rattle.link.specs.Walk.{Walk, walkOf, WalksAs}
 use Rattle.link.specs.Closing.{replyRoom, closeOf, ClosesAs}
 use Rattle.link.specs.Receiving.{Call, shortCall, walkCall, receiveOf, shortReceived, ReceivesAs}
@@ -47,9 +46,3 @@ unfolding walkCall
 received state walk walked content closed reply packet reply₁ packet₁ u k =
     let k′ = rw (u .answers, u .array) at k in
     record { answers = rw (u .answers, u .array, k′ .answers); replied = k′ .replied; handed-out = k′ .handed-out }
-
--- an empty piece changes nothing
-pub empty-piece : (state : Link) (replySize packetSize : ℕ) → replyRoom ≤ replySize → payloadMax ≤ packetSize
-    → receiveOf state [] replySize packetSize ≡ record { link = state; taken = 0; answer = says.Nothing; reply = []; packet = [] }
-unfolding walkCall walkOf
-empty-piece state replySize packetSize h k = room-for-both state [] replySize packetSize h k

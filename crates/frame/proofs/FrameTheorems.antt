@@ -3,10 +3,10 @@
 -- content and two flags.
 use mathlib.Core.Path.{_≡_, refl, sym, ap, _∙_}
 use mathlib.Core.Bool.{Bool, true, false, cond}
-use mathlib.Core.List.{List, [], _∷_, _++_, append-assoc}
+use mathlib.Core.List.{List, [], _∷_, _++_}
 use Prim.Native.Nat.{ℕ, suc, _+_, _-_, _*_, _≤_}
 use native.Mathlib.Omega.{arith}
-use lib.Dec.{eqb, ltb}
+use lib.Dec.{ltb}
 use lib.ListN.{length, length-append}
 use lib.Seq.{take-at}
 use borrow.Author.Tests.{eq-eqb, le-leb}
@@ -14,11 +14,10 @@ use Rattle.refusals.specs.Numbers.{badFraming, shortOutput, longPayload}
 use Rattle.crc.specs.Crc.{linkStart, crcOf, checkBytes}
 use Rattle.crc.proofs.CrcLaws.{crc-checked}
 use Rattle.slices.proofs.Impossible.{impossible}
-use Rattle.slices.specs.Each.{each}
 use Rattle.slices.specs.Written.{written}
 use Rattle.slices.proofs.WrittenLaws.{Wrote, wrote}
 use Rattle.frame.specs.Stuffing as stuffing
-use Rattle.frame.specs.Stuffing.{flagByte, contentMax, stuffByte, stuff, escapes, unstuff}
+use Rattle.frame.specs.Stuffing.{flagByte, contentMax, stuff, escapes, unstuff}
 use Rattle.frame.specs.Content as content
 use Rattle.frame.specs.Content.{payloadMax, contentOf, frame, judged}
 use Rattle.frame.specs.Writing.{framed, frameOf, writeContent, writeFrame}
@@ -29,30 +28,7 @@ use Rattle.frame.proofs.ContentLaws.{judged-good, answer-frame}
 use Rattle.frame.proofs.ReadLaws.{frame-run, run-content}
 use Rattle.frame.proofs.WriteLaws.{length-framed}
 use Rattle.frame.proofs.StuffLaws.{length-stuff}
-use Rattle.frame.proofs.StuffTheorems.{unstuff-stuff, stuffed-length}
-
--- a stuffed byte holds no flag
-byte-without-flag : (b : ℕ) (rest : List ℕ) → firstFlag (stuffByte b ++ rest) ≡ length (stuffByte b) + firstFlag rest
-unfolding firstFlag
-byte-without-flag b rest = cases (eqb b 0x7e) (eqb b 0x7d) refl
-  where
-    two : (second : ℕ) → eqb second 0x7e ≡ false → firstFlag (0x7d ∷ second ∷ rest) ≡ 2 + firstFlag rest
-    two second e = rw e (omega arith)
-
-    cases : (t u : Bool) → eqb b 0x7e ≡ t
-        → firstFlag (cond t (0x7d ∷ 0x5e ∷ []) (cond u (0x7d ∷ 0x5d ∷ []) (b ∷ [])) ++ rest)
-        ≡ length (cond t (0x7d ∷ 0x5e ∷ []) (cond u (0x7d ∷ 0x5d ∷ []) (b ∷ []))) + firstFlag rest
-    cases true u e = two 0x5e refl
-    cases false true e = two 0x5d refl
-    cases false false e = rw e (omega arith)
-
-stuffed-without-flag : (c rest : List ℕ) → firstFlag (stuff c ++ rest) ≡ length (stuff c) + firstFlag rest
-unfolding each
-stuffed-without-flag [] rest = omega arith
-stuffed-without-flag (b ∷ bs) rest =
-    let first = byte-without-flag b (stuff bs ++ rest) in
-    let sizes = length-append (stuffByte b) (stuff bs) in
-    rw (append-assoc (stuffByte b) (stuff bs) rest) (omega (arith, first, sizes, stuffed-without-flag bs rest))
+use Rattle.frame.proofs.StuffTheorems.{unstuff-stuff, stuffed-length, stuffed-without-flag}
 
 -- THEOREM. A written frame has a flag first, a flag last and none between.
 pub framed-flags : (c : List ℕ) → flaggedBytes (framed c) ≡ true

@@ -44,7 +44,6 @@ written-reported result output answer exit report did e =
     packed (writing.refused n) = refl
 
 -- a length that was answered is that of a payload that was read, or of a frame that was written
-
 pub read-size : (found : content.Read) (k q n limit : ℕ)
     → ((k₁ q₁ : ℕ) (p : List ℕ) → found ≡ content.frame k₁ q₁ p → length p ≤ limit) → read.Frame k q n ≡ readAnswer found → n ≤ limit
 read-size (content.frame k₁ q₁ p) k q n limit bound e =

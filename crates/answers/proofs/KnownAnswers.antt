@@ -3,6 +3,7 @@ use mathlib.Core.Path.{_≡_, refl}
 use mathlib.Core.List.{map}
 use Rattle.slices.specs.Each.{each}
 use Rattle.slices.specs.Same.{sameBytes}
+use Rattle.slices.specs.Written.{fitted}
 use Rattle.crc.specs.Crc.{shiftBit, shiftBits, addByte, crcOf}
 use Rattle.frame.specs.Stuffing.{unstuffFrom, unstuff}
 use Rattle.frame.specs.Content.{contentOf, judged}
@@ -33,5 +34,5 @@ abbrev answer : Case → Result
 answer c = c .answer
 
 pub known-answers : map computed table ≡ map answer table
-unfolding crcOf addByte shiftBits shiftBit each contentOf framed writeContent writeFrame unstuffFrom unstuff judged readRun turn taken frameOf step after moreAt ledger.updated readFrame flaggedBytes firstFlag acknowledgement receivePiece receiveOf walkCall walkOf turnOf stepOf frameOutcome dataFrame readBoard applied updated used changeAt readingOf ifWatched verdictOf withName withValue valueOfItem taskOf taskOfItems valueOf numberOf placeFrom sameBytes packetOf isData withItems itemsOf ifEofsEmpty itemsFilling itemsUpTo inFront eofsEmpty emptyIfEof countOf firstOf behindOf headOf validName between isLetter isNameByte allNameBytes
+unfolding crcOf addByte shiftBits shiftBit each contentOf framed fitted writeContent writeFrame unstuffFrom unstuff judged readRun turn taken frameOf step after moreAt ledger.updated readFrame flaggedBytes firstFlag acknowledgement receivePiece receiveOf walkCall walkOf turnOf stepOf frameOutcome dataFrame readBoard applied updated used changeAt readingOf ifWatched verdictOf withName withValue valueOfItem taskOf taskOfItems valueOf numberOf placeFrom sameBytes packetOf isData withItems itemsOf ifEofsEmpty itemsFilling itemsUpTo inFront eofsEmpty emptyIfEof countOf firstOf behindOf headOf validName between isLetter isNameByte allNameBytes
 known-answers = refl

@@ -1,3 +1,5 @@
 pub mod KnownAnswers
+pub mod KnownAshFrames
+pub mod KnownChecks
 pub mod KnownRuns
 pub mod KnownValues

@@ -6,7 +6,8 @@ use lib.IntN.{ℤ, pos, negsuc}
 use lib.ListN.{replicate}
 use Rattle.crc.specs.Crc.{linkStart, crcOf}
 use Rattle.frame.specs.Content.{Read, frame}
-use Rattle.frame.specs.Writing.{Written, written, writeFrame}
+use Rattle.slices.specs.Written.{Output, written}
+use Rattle.frame.specs.Writing.{writeFrame}
 use Rattle.frame.specs.Reading.{readFrame}
 use Rattle.link.specs.Closing.{acknowledgement}
 use Rattle.rows.specs.Rows.{boardOf, updateBoard, tickBoard}
@@ -28,7 +29,7 @@ use Rattle.ledger.specs.Calls.{after}
 -- ledger's rows show, the states of the board's rows, or what the display made of a piece: its answer, the reply and these states
 pub data Result : Type 0 where
   check : ℕ → Result
-  frame-written : Written → Result
+  frame-written : Output → Result
   frame-read : Read → Result
   bytes : List ℕ → Result
   value : Option ℤ → Result

@@ -8,18 +8,19 @@ use Rattle.slices.proofs.Impossible.{impossible}
 use Rattle.slices.specs.Put.{putAt}
 use Rattle.slices.proofs.PutLaws.{put-told}
 use Rattle.slices.proofs.Lent.{InOutCall, in-out-call}
+use Rattle.slices.specs.Written.{writeAnswer, writtenBytes, WritesAs}
+use Rattle.slices.specs.declared.Written.{Written}
+use Rattle.slices.specs.declared.Written.the-variants.{Length}
+use Rattle.slices.proofs.WrittenLaws.{told}
 use Rattle.ash.specs.Stuffing.{payloadMax, stuff}
-use Rattle.ash.specs.Writing as writing
 use Rattle.ash.specs.Writing.{frameOf, writeFrame}
 use Rattle.ash.specs.Reading as reading
 use Rattle.ash.specs.Reading.{readFrame}
-use Rattle.ash.specs.Answers.{readAnswer, readPayload, ReadsAs, writeAnswer, writtenBytes, WritesAs}
+use Rattle.ash.specs.Answers.{readAnswer, readPayload, ReadsAs}
 use Rattle.ash.specs.declared.reader.FrameRead.{FrameRead}
 use Rattle.ash.specs.declared.reader.FrameRead.the-variants.{Frame}
-use Rattle.ash.specs.declared.writer.Written.{Written}
-use Rattle.ash.specs.declared.writer.Written.the-variants.{Length}
 use Rattle.ash.proofs.WriteLaws.{frame-length, room-enough}
-use Rattle.ash.proofs.FrameTheorems.{wrote}
+use Rattle.ash.proofs.FrameTheorems.{wrote-frame}
 use Rattle.ash.proofs.OnlyWritten.{taken-fits}
 use Rattle.ash.proofs.writer.write_frame.Reads as write-frame
 use Rattle.ash.proofs.reader.read_frame.Reads as read-frame
@@ -40,16 +41,7 @@ pub was-read : {bytes before : List ℕ} {answer : FrameRead} {after : List ℕ}
     → ReadsAs (readFrame (length before) bytes) before answer after
 was-read r = rw (r .input-lent .holds, r .output-lent .holds, r .output-left .holds) at (r .learnt)
 
--- a length is answered only for a frame that was written, a frame only where one was found
-record Told (result : writing.Written) (n : ℕ) : Type 0 where
-  sent : List ℕ
-  is : result ≡ writing.written sent
-  size : n ≡ length sent
-
-told : (result : writing.Written) (n : ℕ) → Length n ≡ writeAnswer result → Told result n
-told (writing.written sent) n e = record { sent = sent; is = refl; size = let same : n ≡ length sent = cc in same }
-told (writing.refused m) n e = impossible cc
-
+-- a frame is answered only where one was found
 record Found (result : reading.Read) (control n : ℕ) : Type 0 where
   payload : List ℕ
   is : result ≡ reading.frame control payload
@@ -69,11 +61,9 @@ pub record FrameOut (control : ℕ) (payload : List ℕ) (n : ℕ) (after : List
 pub frame-out : {control : ℕ} {payload before : List ℕ} {n : ℕ} {after : List ℕ} → Writes control payload before (Length n) after
     → FrameOut control payload n after
 frame-out {control} {payload} {before} {n} {after} w =
-    let did = was-written w in
-    let t = told (writeFrame (length before) control payload) n (did .answers) in
-    let frame = wrote (length before) control payload (t .sent) (t .is) in
-    let put : after ≡ putAt before 0 (t .sent) = did .output ∙ ap (λ (x : writing.Written). putAt before 0 (writtenBytes x)) (t .is) in
-    record { short = frame .short; is = put-told before after (t .sent) n put (t .size) (frame .fits) ∙ frame .is }
+    let t = told (writeFrame (length before) control payload) before n after (was-written w) in
+    let frame = wrote-frame (length before) control payload (t .bytes) (t .is) in
+    record { short = frame .short; is = put-told before after (t .bytes) n (t .put) (t .size) (frame .fits) ∙ frame .is }
 
 -- where a call answered a control byte and n, the first n bytes of the output are the payload of the frame
 pub frame-in : {bytes before : List ℕ} {control n : ℕ} {after : List ℕ} → Reads bytes before (Frame control n) after
@@ -89,7 +79,7 @@ frame-in {bytes} {before} {control} {n} {after} r =
 pub all-payloads-are-written : (control : ℕ) (payload before : List ℕ)
     → Writes control payload before (writeAnswer (writeFrame (length before) control payload))
     (putAt before 0 (writtenBytes (writeFrame (length before) control payload)))
-all-payloads-are-written control payload before = in-out-call tt (record { answers = refl; output = refl })
+all-payloads-are-written control payload before = in-out-call tt (record { answers = refl; put = refl })
 
 pub all-bytes-are-read : (bytes before : List ℕ)
     → Reads bytes before (readAnswer (readFrame (length before) bytes)) (putAt before 0 (readPayload (readFrame (length before) bytes)))

@@ -8,17 +8,19 @@ use Prim.Native.Nat.{ℕ, _+_, _≤_}
 use lib.ListN.{length, take, getD}
 use Rattle.slices.proofs.Impossible.{impossible}
 use Rattle.slices.specs.Put.{putAt}
+use Rattle.slices.specs.Written as writing
+use Rattle.slices.specs.Written.{writeAnswer}
+use Rattle.slices.specs.declared.Written.{Written}
+use Rattle.slices.specs.declared.Written.the-variants as written
+use Rattle.slices.proofs.WrittenLaws.{refusal-keeps}
 use Rattle.ash.specs.Reserved.{flagByte, reserved}
 use Rattle.ash.specs.Stuffing.{payloadMax, stuff}
-use Rattle.ash.specs.Writing as writing
 use Rattle.ash.specs.Writing.{frameOf, writeFrame}
 use Rattle.ash.specs.Reading as reading
 use Rattle.ash.specs.Reading.{readFrame}
-use Rattle.ash.specs.Answers.{readAnswer, readPayload, writeAnswer, writtenBytes}
+use Rattle.ash.specs.Answers.{readAnswer, readPayload}
 use Rattle.ash.specs.declared.reader.FrameRead.{FrameRead}
 use Rattle.ash.specs.declared.reader.FrameRead.the-variants as read
-use Rattle.ash.specs.declared.writer.Written.{Written}
-use Rattle.ash.specs.declared.writer.Written.the-variants as written
 use Rattle.ash.proofs.WriteLaws.{frame-length, room-enough}
 use Rattle.ash.proofs.FrameTheorems.{frame-read-back, written-wherever}
 use Rattle.ash.proofs.OnlyWritten.{only-written}
@@ -40,7 +42,7 @@ pub call-writes : (control : ℕ) (payload bytes : List ℕ) (room : ℕ) (out :
 call-writes control payload bytes room out answer sent e w fits =
     let is : writeFrame (length out) control payload ≡ writing.written bytes = written-wherever room control payload bytes (length out) e fits in
     let did = was-written w in
-    (did .answers ∙ ap writeAnswer is, did .output ∙ rw is)
+    (did .answers ∙ ap writeAnswer is, did .put ∙ rw is)
 
 -- THEOREM. A call of `write_frame` with a payload of at most 57 bytes as sent and room for its frame answers the frame's length and puts the
 -- frame at the start of its output.
@@ -84,10 +86,6 @@ pub call-only-flag-and-escapes : (control : ℕ) (payload out : List ℕ) (n : �
     → ((i ≡ 0) × (getD (take n sent) i 0 ≡ flagByte)) ⊎ PayloadEscape (take n sent) i
 call-only-flag-and-escapes control payload out n sent w i = rw (frame-out w .is) (only-flag-and-escapes control payload i)
 
-no-bytes : (result : writing.Written) (m : ℕ) → written.Refused m ≡ writeAnswer result → writtenBytes result ≡ []
-no-bytes (writing.written sent) m e = impossible cc
-no-bytes (writing.refused k) m e = refl
-
 no-payload : (result : reading.Read) (m : ℕ) → read.Refused m ≡ readAnswer result → readPayload result ≡ []
 no-payload (reading.frame control payload) m e = impossible cc
 no-payload (reading.refused k) m e = refl
@@ -96,9 +94,7 @@ no-payload (reading.refused k) m e = refl
 pub call-refused : ((control : ℕ) (payload out : List ℕ) (m : ℕ) (sent : List ℕ) → Writes control payload out (written.Refused m) sent → sent ≡ out)
     × ((bytes before : List ℕ) (m : ℕ) (after : List ℕ) → Reads bytes before (read.Refused m) after → after ≡ before)
 call-refused = (
-  λ control payload out m sent w.
-      let did = was-written w in
-      did .output ∙ rw (no-bytes (writeFrame (length out) control payload) m (did .answers)),
+  λ control payload out m sent w. refusal-keeps (writeFrame (length out) control payload) out m sent (was-written w),
   λ bytes before m after r.
       let did = was-read r in
       did .output ∙ rw (no-payload (readFrame (length before) bytes) m (did .answers)),

@@ -1,22 +1,21 @@
 -- Every written frame is read back: header and payload are escaped exactly where they are reserved, the length says how many bytes of
 -- payload were sent, and the check bytes are computed anew.
 use mathlib.Core.Path.{_≡_, refl, sym, ap, ap₂, _∙_}
-use mathlib.Core.Bool.{Bool, true, false, cond}
+use mathlib.Core.Bool.{Bool, true, false}
 use mathlib.Core.List.{List, _++_}
 use Prim.Native.Nat.{ℕ, _+_, _≤_}
 use native.Mathlib.Omega.{arith}
-use lib.Dec.{ltb}
 use lib.ListN.{length, take, drop, length-append}
 use lib.Seq.{take-at, drop-at}
-use borrow.Author.Tests.{ltb-false}
-use Rattle.refusals.specs.Numbers.{shortOutput, badLength}
-use Rattle.slices.proofs.Impossible.{impossible}
+use Rattle.refusals.specs.Numbers.{badLength}
+use Rattle.slices.specs.Written.{written}
+use Rattle.slices.proofs.WrittenLaws.{Wrote, wrote}
 use Rattle.slices.proofs.SameLaws.{same-refl}
 use Rattle.ash.specs.Reserved.{reserved, unescaped, rightlyEscaped}
-use Rattle.ash.specs.Stuffing.{payloadMax, stuff, payload}
+use Rattle.ash.specs.Stuffing.{payloadMax, stuff}
 use Rattle.ash.specs.Header.{escapeBits, headerEscape, sentByte, sentHeader, controlEscaped, lengthEscaped, noReservedBit, goodHeader}
 use Rattle.ash.specs.Check.{checkBytes}
-use Rattle.ash.specs.Writing.{frameOf, written, refused, writeFrame}
+use Rattle.ash.specs.Writing.{frameOf, writeFrame}
 use Rattle.ash.specs.Reading.{frame, readByLength, readByHeader, flagFirst, readFrame}
 use Rattle.ash.proofs.ReservedLaws.{flipped-twice}
 use Rattle.ash.proofs.HeaderLaws.{length-decides}
@@ -96,37 +95,21 @@ module _ (control : ℕ) (p : List ℕ) where
       (same-check control (checkBytes control p) (checkBytes control p) p (same-refl (checkBytes control p)))
 
 -- a frame was written only of a payload of at most 57 bytes as sent and into room enough, and it is the frame of the two
-pub record Wrote (room control : ℕ) (p sent : List ℕ) : Type 0 where
-  pub short : length (stuff p) ≤ payloadMax
-  pub fits : length sent ≤ room
-  pub is : sent ≡ frameOf control p
-
-pub wrote : (room control : ℕ) (p sent : List ℕ) → writeFrame room control p ≡ written sent → Wrote room control p sent
+pub wrote-frame : (room control : ℕ) (p sent : List ℕ) → writeFrame room control p ≡ written sent
+    → Wrote payloadMax (length (stuff p)) room (frameOf control p) sent
 unfolding writeFrame
-wrote room control p sent e = cases (ltb payloadMax (length (stuff p))) (ltb room (length (frameOf control p))) refl refl e
-  where
-    cases : (t u : Bool) → ltb payloadMax (length (stuff p)) ≡ t → ltb room (length (frameOf control p)) ≡ u
-        → cond t (refused badLength) (cond u (refused shortOutput) (written (frameOf control p))) ≡ written sent → Wrote room control p sent
-    cases true u f g e = impossible cc
-    cases false true f g e = impossible cc
-    cases false false f g e =
-        let same : sent ≡ frameOf control p = cc in
-        record {
-          short = ltb-false payloadMax (length (stuff p)) f;
-          fits = rw same (ltb-false room (length (frameOf control p)) g);
-          is = same;
-        }
+wrote-frame room control p sent e = wrote payloadMax (length (stuff p)) room badLength (frameOf control p) sent e
 
 -- what was written is written wherever it fits
 pub written-wherever : (room control : ℕ) (p sent : List ℕ) (room₁ : ℕ) → writeFrame room control p ≡ written sent → length sent ≤ room₁
     → writeFrame room₁ control p ≡ written sent
 written-wherever room control p sent room₁ e fits =
-    let w = wrote room control p sent e in
+    let w = wrote-frame room control p sent e in
     room-enough room₁ control p (w .short) (omega (arith, frame-length control p, ap length (w .is))) ∙ ap written (sym (w .is))
 
 -- THEOREM. Whatever the writer wrote is read back as its control byte and payload.
 pub written-read-back : (room control : ℕ) (p sent : List ℕ) (room₁ : ℕ) → writeFrame room control p ≡ written sent → payloadMax ≤ room₁
     → readFrame room₁ sent ≡ frame control p
 written-read-back room control p sent room₁ e asked =
-    let w = wrote room control p sent e in
+    let w = wrote-frame room control p sent e in
     rw (w .is) (frame-read-back control p room₁ asked (w .short))

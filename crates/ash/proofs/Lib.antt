@@ -14,4 +14,3 @@ pub mod Calls
 pub mod FreePayload
 pub mod FreeFrames
 pub mod FrameCalls
-pub mod KnownFrames

@@ -10,12 +10,13 @@ use lib.Seq.{length-take-le}
 use borrow.Author.Tests.{eqb-true, not-true}
 use Rattle.refusals.specs.Numbers.{badHeader}
 use Rattle.slices.proofs.Impossible.{impossible}
+use Rattle.slices.specs.Written.{written}
 use Rattle.slices.proofs.TestLaws.{both}
 use Rattle.ash.specs.Reserved.{flagByte, reserved, unescaped, rightlyEscaped}
 use Rattle.ash.specs.Stuffing.{payloadMax, stuff, payload, unstuff}
 use Rattle.ash.specs.Header.{escapeBits, sentByte, sentHeader, controlEscaped, lengthEscaped, noReservedBit, goodHeader}
 use Rattle.ash.specs.Check.{checkBytes}
-use Rattle.ash.specs.Writing.{frameOf, written, writeFrame}
+use Rattle.ash.specs.Writing.{frameOf, writeFrame}
 use Rattle.ash.specs.Reading.{frame, refused, readByLength, readByHeader, readFrame}
 use Rattle.ash.proofs.ReservedLaws.{flipped-twice}
 use Rattle.ash.proofs.WriteLaws.{frame-length, room-enough}

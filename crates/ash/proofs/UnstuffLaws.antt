@@ -3,7 +3,7 @@
 use mathlib.Core.Path.{_≡_, refl, sym, ap, _∙_}
 use mathlib.Core.Bool.{Bool, true, false, cond}
 use mathlib.Core.List.{List, [], _∷_, _++_, append-assoc, append-nil}
-use Prim.Native.Nat.{ℕ, suc, _+_, _≤_, _<_}
+use Prim.Native.Nat.{ℕ, _+_, _≤_, _<_}
 use native.Mathlib.Numerals.{add-one}
 use native.Mathlib.Omega.{arith}
 use lib.Dec.{eqb}
@@ -13,8 +13,9 @@ use Rattle.slices.proofs.Impossible.{impossible}
 use Rattle.slices.specs.Put.{putAt}
 use Rattle.slices.proofs.PutLaws.{put-append}
 use Rattle.ash.specs.Reserved.{escapeByte, unescaped, rightlyEscaped}
-use Rattle.ash.specs.Stuffing.{payloadMax, standing, Unstuffed, payload, broken, joined, taken, unstuffFrom, unstuff}
-use Rattle.ash.specs.Answers.{UnstuffsAs}
+use Rattle.ash.specs.Stuffing.{standing, Unstuffed, payload, broken, joined, taken, unstuffFrom, unstuff}
+use Rattle.ash.specs.ReaderSteps.{UnstuffsAs}
+use Rattle.ash.specs.declared.stuffing.Unstuffed.the-variants as answer
 
 left : (s : List ℕ) (i : ℕ) → i < length s → drop i s ≡ getD s i 0 ∷ drop (i + 1) s
 left s i h = rw add-one (drop-cons s i 0 h)
@@ -96,17 +97,17 @@ module _ (sent array₀ : List ℕ) where
       }
 
   module _ (array : List ℕ) (i held : ℕ) (h : Held sent array₀ array i held) where
-    pub all-held : unstuff (drop i sent) ≡ payload [] → UnstuffsAs (unstuff sent) array₀ held array
+    pub all-held : unstuff (drop i sent) ≡ payload [] → UnstuffsAs (unstuff sent) array₀ (answer.Payload held) array
     all-held e =
         let is : unstuff sent ≡ payload (h .bytes) = h .whole ∙ ap (inFront (h .bytes)) e ∙ ap payload (append-nil (h .bytes)) in
         record {
-          answers = rw is (h .count);
+          answers = rw is (ap answer.Payload (h .count));
           array-filled = λ p f.
               let same : h .bytes ≡ p = cc in
               rw (← same) (h .stored);
         }
 
-    pub stopped : unstuff (drop i sent) ≡ broken → UnstuffsAs (unstuff sent) array₀ (suc payloadMax) array
+    pub stopped : unstuff (drop i sent) ≡ broken → UnstuffsAs (unstuff sent) array₀ answer.Broken array
     stopped e =
         let is : unstuff sent ≡ broken = h .whole ∙ ap (inFront (h .bytes)) e in
         record {

@@ -1,5 +1,5 @@
 -- A frame is put in three parts, one behind the other; each test of the writer has its law.
-use mathlib.Core.Path.{_≡_, refl, ap, _∙_}
+use mathlib.Core.Path.{_≡_, refl, _∙_}
 use mathlib.Core.List.{List, [], _∷_, _++_}
 use Prim.Native.Nat.{ℕ, _+_, _≤_, _<_}
 use native.Mathlib.Omega.{arith}
@@ -7,14 +7,14 @@ use lib.ListN.{length, length-append}
 use borrow.Author.Tests.{lt-ltb, le-ltb}
 use Rattle.refusals.specs.Numbers.{shortOutput, badLength}
 use Rattle.slices.specs.Put.{putAt}
+use Rattle.slices.specs.Written.{written, refused}
 use Rattle.slices.proofs.PutLaws.{put-append}
+use Rattle.slices.proofs.WrittenLaws as writing
 use Rattle.ash.specs.Reserved.{flagByte}
 use Rattle.ash.specs.Stuffing.{payloadMax, stuff}
 use Rattle.ash.specs.Header.{headerEscape, sentByte, sentHeader}
 use Rattle.ash.specs.Check.{spread, checkOver, checkBytes}
-use Rattle.ash.specs.Writing.{frameOf, Written, written, refused, writeFrame}
-use Rattle.ash.specs.Answers.{WritesAs}
-use Rattle.ash.specs.declared.writer.Written.the-variants as answer
+use Rattle.ash.specs.Writing.{frameOf, writeFrame}
 
 three-parts : (out a b c : List ℕ) (n : ℕ) → length a ≡ n → putAt (putAt (putAt out 0 a) n b) (n + length b) c ≡ putAt out 0 (a ++ b ++ c)
 three-parts out a b c n e =
@@ -58,18 +58,11 @@ module _ (room control : ℕ) (payload : List ℕ) where
 
   pub no-room : length (stuff payload) ≤ payloadMax → room < 7 + length (stuff payload) → writeFrame room control payload ≡ refused shortOutput
   unfolding writeFrame
-  no-room h s = rw (le-ltb payloadMax (length (stuff payload)) h, frame-length control payload, lt-ltb room (7 + length (stuff payload)) s)
+  no-room h s =
+      rw (le-ltb payloadMax (length (stuff payload)) h) (writing.too-little-room room (frameOf control payload) _ (frame-length control payload) s)
 
   pub room-enough : length (stuff payload) ≤ payloadMax → 7 + length (stuff payload) ≤ room
       → writeFrame room control payload ≡ written (frameOf control payload)
   unfolding writeFrame
-  room-enough h s = rw (le-ltb payloadMax (length (stuff payload)) h, frame-length control payload, le-ltb room (7 + length (stuff payload)) s)
-
--- a refusal is answered and leaves the output as it was
-pub refuses : (result : Written) (n : ℕ) (out : List ℕ) → result ≡ refused n → WritesAs result out (answer.Refused n) out
-refuses result n out e = rw e (record { answers = refl; output = refl })
-
--- a frame is answered by its length and put at the start
-pub writes : (result : Written) (sent out exit : List ℕ) (n : ℕ) → result ≡ written sent → n ≡ length sent → exit ≡ putAt out 0 sent
-    → WritesAs result out (answer.Length n) exit
-writes result sent out exit n e size put = rw e (record { answers = ap answer.Length size; output = put })
+  room-enough h s =
+      rw (le-ltb payloadMax (length (stuff payload)) h) (writing.room-enough room (frameOf control payload) _ (frame-length control payload) s)

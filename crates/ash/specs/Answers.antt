@@ -1,15 +1,11 @@
 -- What the functions promise: their answers as enums, and the lent bytes, from the definitions of the papers' words.
-use Prim.Native.Nat.{ℕ, suc}
+use Prim.Native.Nat.{ℕ}
 use mathlib.Core.Path.{_≡_}
 use mathlib.Core.List.{List, []}
 use lib.ListN.{length}
 use Rattle.slices.specs.Put.{putAt}
-use Rattle.ash.specs.Stuffing as stuffing
-use Rattle.ash.specs.Stuffing.{payloadMax}
 use Rattle.ash.specs.Reading as reading
-use Rattle.ash.specs.Writing as writing
 use Rattle.ash.specs.declared.reader.FrameRead as read
-use Rattle.ash.specs.declared.writer.Written as written
 
 -- the reader's answer: control byte and the payload's length, or the refusal's number
 abbrev pub readAnswer : reading.Read → read.FrameRead
@@ -25,28 +21,3 @@ readPayload (reading.refused n) = []
 pub record ReadsAs (found : reading.Read) (out : List ℕ) (answer : read.FrameRead) (exit : List ℕ) : Type 0 where
   pub answers : answer ≡ readAnswer found
   pub output : exit ≡ putAt out 0 (readPayload found)
-
--- the writer's answer: the length of the frame, or the refusal's number
-abbrev pub writeAnswer : writing.Written → written.Written
-writeAnswer (writing.written sent) = written.the-variants.Length (length sent)
-writeAnswer (writing.refused n) = written.the-variants.Refused n
-
-abbrev pub writtenBytes : writing.Written → List ℕ
-writtenBytes (writing.written sent) = sent
-writtenBytes (writing.refused n) = []
-
--- what was written is answered, and put at the start of the output
-pub record WritesAs (result : writing.Written) (out : List ℕ) (answer : written.Written) (exit : List ℕ) : Type 0 where
-  pub answers : answer ≡ writeAnswer result
-  pub output : exit ≡ putAt out 0 (writtenBytes result)
-
--- how many bytes of payload were unstuffed, or one more than any payload has where a rule was broken
-abbrev pub unstuffAnswer : stuffing.Unstuffed → ℕ
-unstuffAnswer (stuffing.payload p) = length p
-unstuffAnswer stuffing.broken = suc payloadMax
-
--- What was unstuffed is answered, and stands in the array where no rule was broken. What a refused frame leaves in that array of
--- the reader's own is open.
-pub record UnstuffsAs (found : stuffing.Unstuffed) (array : List ℕ) (answer : ℕ) (exit : List ℕ) : Type 0 where
-  pub answers : answer ≡ unstuffAnswer found
-  pub array-filled : (p : List ℕ) → found ≡ stuffing.payload p → exit ≡ putAt array 0 p

@@ -5,6 +5,14 @@ use mathlib.Core.List.{List, [], _∷_}
 use lib.Dec.{eqb}
 use Rattle.ash.specs.Reserved.{flagByte, reserved, flipped, rightlyEscaped}
 
+-- the bytes in front of the payload
+abbrev pub headerSize : ℕ
+headerSize = 4
+
+-- 002, 3.8: a frame without payload has them and three check bytes
+abbrev pub frameMin : ℕ
+frameMin = 7
+
 -- 80 hex if the control byte is escaped, plus 40 if the length byte is
 abbrev pub escapeBits : Bool → Bool → ℕ
 escapeBits control size = cond control 0x80 0 + cond size 0x40 0

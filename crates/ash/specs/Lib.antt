@@ -5,3 +5,4 @@ pub mod Check
 pub mod Writing
 pub mod Reading
 pub mod Answers
+pub mod ReaderSteps

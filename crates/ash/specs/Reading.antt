@@ -8,7 +8,7 @@ use Rattle.refusals.specs.Numbers.{shortOutput, badHeader, badLength, badStuffi
 use Rattle.slices.specs.Same.{sameBytes}
 use Rattle.ash.specs.Reserved.{flagByte, unescaped}
 use Rattle.ash.specs.Stuffing.{payloadMax, Unstuffed, payload, broken, unstuff}
-use Rattle.ash.specs.Header.{controlEscaped, lengthEscaped, goodHeader}
+use Rattle.ash.specs.Header.{headerSize, frameMin, controlEscaped, lengthEscaped, goodHeader}
 use Rattle.ash.specs.Check.{checkBytes}
 
 -- what the bytes turn out to be: a frame's control byte and payload, or a refusal
@@ -28,8 +28,8 @@ checked control check broken = refused badStuffing
 -- refusal 22: a length over 57 or not the bytes present
 unfoldable pub readByLength : ℕ → ℕ → List ℕ → Read
 readByLength control size bytes =
-    cond (leb size payloadMax && eqb (length bytes) (size + 7))
-    (checked control (drop (size + 4) bytes) (unstuff (take size (drop 4 bytes))))
+    cond (leb size payloadMax && eqb (length bytes) (size + frameMin))
+    (checked control (drop (size + headerSize) bytes) (unstuff (take size (drop headerSize bytes))))
     (refused badLength)
 
 -- refusal 21: reserved header escape bits set, or a header escape that is needless or missing
@@ -50,4 +50,4 @@ flagFirst (b ∷ bs) = eqb b flagByte
 unfoldable pub readFrame : ℕ → List ℕ → Read
 readFrame room bytes =
     cond (ltb room payloadMax) (refused shortOutput)
-    (cond (flagFirst bytes) (cond (ltb (length bytes) 7) (refused badLength) (readByHeader bytes)) (refused badHeader))
+    (cond (flagFirst bytes) (cond (ltb (length bytes) frameMin) (refused badLength) (readByHeader bytes)) (refused badHeader))

@@ -8,7 +8,7 @@ use crate::escapes::unescape;
 use crate::header::control_escaped;
 use crate::header::good_header;
 use crate::header::length_escaped;
-use crate::stuffing::BROKEN;
+use crate::stuffing::Unstuffed;
 use crate::stuffing::unstuff;
 use refusals::BAD_HEADER;
 use refusals::BAD_LENGTH;
@@ -19,6 +19,7 @@ ghost use mathlib.Core.Path.{_≡_};
 ghost use Prim.Native.Nat.{_≤_};
 ghost use lib.ListN.{length};
 ghost use Rattle.ash.specs.Stuffing.{payloadMax, unstuff};
+ghost use Rattle.ash.specs.Header.{frameMin};
 ghost use Rattle.ash.specs.Check.{checkOver};
 ghost use Rattle.ash.specs.Reading.{flagFirst, compared, checked, readByLength, readByHeader, readFrame};
 ghost use Rattle.ash.specs.Answers.{ReadsAs};
@@ -57,7 +58,7 @@ fn flag_first(bytes: &[u8]) -> bool
 
 // Reads a frame by its header: refusal 21 where that is bad.
 fn read_by_header(bytes: &[u8], out: &mut [u8]) -> FrameRead
-    requires { ⌜ 7 ≤ length (now bytes) ⌝ }
+    requires { ⌜ frameMin ≤ length (now bytes) ⌝ }
     ensures { λ r. ⌜ ReadsAs (readByHeader (now (bytes .entry))) (now (out .entry)) r (now (out .exit)) ⌝ }
 {
     let escape = bytes[1];
@@ -93,11 +94,13 @@ fn read_payload(control: u8, sent: &[u8], check: &[u8], out: &mut [u8]) -> Frame
     ensures { λ r. ⌜ ReadsAs (checked control (now (check .entry)) (unstuff (now (sent .entry)))) (now (out .entry)) r (now (out .exit)) ⌝ }
 {
     let mut payload = [0u8; PAYLOAD_MAX];
-    let length = unstuff(sent, &mut payload);
-    if length == BROKEN {
-        return FrameRead::Refused(BAD_STUFFING);
+    match unstuff(sent, &mut payload) {
+        Unstuffed::Broken => FrameRead::Refused(BAD_STUFFING),
+        Unstuffed::Payload(length) => {
+            let size = sent.len() as u8;
+            hand_out(control, size, &payload[..length], check, out)
+        }
     }
-    hand_out(control, sent.len() as u8, &payload[..length], check, out)
 }
 
 // Puts a payload at the start of `out`: refusal 24 where the check bytes are other than the writer's.

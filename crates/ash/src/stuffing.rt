@@ -1,6 +1,5 @@
 // The payload as it is sent: each reserved byte stands escaped behind an escape byte.
 use crate::ESCAPE;
-use crate::PAYLOAD_MAX;
 use crate::escapes::flip;
 use crate::escapes::is_reserved;
 use crate::escapes::rightly_escaped;
@@ -11,7 +10,7 @@ ghost use Prim.Native.Nat.{_≤_};
 ghost use lib.ListN.{length};
 ghost use Rattle.slices.specs.Put.{putAt};
 ghost use Rattle.ash.specs.Stuffing.{stuffByte, stuff, unstuff};
-ghost use Rattle.ash.specs.Answers.{UnstuffsAs};
+ghost use Rattle.ash.specs.ReaderSteps.{UnstuffsAs};
 
 // Puts a payload, stuffed, at the start of `out`, and answers its length as sent. What would fall past
 // the end of `out` is dropped.
@@ -41,11 +40,14 @@ fn put_byte(out: &mut [u8], at: usize, byte: u8) -> usize
     1
 }
 
-// The answer of `unstuff` where a rule was broken: a number above any length of payload.
-pub(crate) const BROKEN: usize = PAYLOAD_MAX + 1;
+// What sent bytes turned out to be: so many bytes of payload, or that they break a rule.
+pub enum Unstuffed {
+    Payload(usize),
+    Broken,
+}
 
-// Unstuffs the bytes `sent` to the start of `payload`, and answers the payload's length.
-pub(crate) fn unstuff(sent: &[u8], payload: &mut [u8]) -> usize
+// Unstuffs the bytes `sent` to the start of `payload`. What a broken rule leaves there is open.
+pub(crate) fn unstuff(sent: &[u8], payload: &mut [u8]) -> Unstuffed
     requires { ⌜ length (now sent) ≤ length (now payload) ⌝ }
     ensures { λ r. ⌜ UnstuffsAs (unstuff (now (sent .entry))) (now (payload .entry)) r (now (payload .exit)) ⌝ }
 {
@@ -55,17 +57,17 @@ pub(crate) fn unstuff(sent: &[u8], payload: &mut [u8]) -> usize
         let escaped = sent[i] == ESCAPE;
         let at = i + escape_size(escaped);
         if sent.len() <= at {
-            return BROKEN;
+            return Unstuffed::Broken;
         }
         let byte = sent[at];
         if !rightly_escaped(escaped, byte) {
-            return BROKEN;
+            return Unstuffed::Broken;
         }
         payload[held] = unescape(escaped, byte);
         held += 1;
         i = at + 1;
     }
-    held
+    Unstuffed::Payload(held)
 }
 
 // How many bytes stand before a sent byte to escape it.

@@ -9,22 +9,17 @@ use crate::header::sent_byte;
 use crate::stuffing::put_stuffed;
 use refusals::BAD_LENGTH;
 use refusals::SHORT_OUTPUT;
+pub use slices::Written;
 ghost use mathlib.Core.Path.{_≡_};
 ghost use Prim.Native.Nat.{_≤_};
 ghost use mathlib.Core.List.{_++_};
 ghost use lib.ListN.{length};
 ghost use Rattle.slices.specs.Put.{putAt};
+ghost use Rattle.slices.specs.Written.{WritesAs};
 ghost use Rattle.ash.specs.Stuffing.{payloadMax};
 ghost use Rattle.ash.specs.Header.{sentHeader};
 ghost use Rattle.ash.specs.Check.{checkOver};
 ghost use Rattle.ash.specs.Writing.{writeFrame};
-ghost use Rattle.ash.specs.Answers.{WritesAs};
-
-// How many bytes were written, or why none was.
-pub enum Written {
-    Length(usize),
-    Refused(u8),
-}
 
 // Writes the frame of a control byte and a payload at the start of `out`: refusal 22 for a payload
 // over 57 bytes as sent, then refusal 7 where `out` has too little room.

@@ -1,2 +1,1 @@
 pub mod CrcLaws
-pub mod CrcVectors

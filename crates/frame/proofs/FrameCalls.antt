@@ -8,19 +8,20 @@ use Rattle.slices.proofs.Impossible.{impossible}
 use Rattle.slices.specs.Put.{putAt}
 use Rattle.slices.proofs.PutLaws.{put-told}
 use Rattle.slices.proofs.Lent.{InOutCall, in-out-call}
+use Rattle.slices.specs.Written.{written, writeAnswer, writtenBytes, WritesAs}
+use Rattle.slices.specs.declared.Written.{Written}
+use Rattle.slices.specs.declared.Written.the-variants as answered
+use Rattle.slices.proofs.WrittenLaws.{told, refusal-keeps}
 use Rattle.frame.specs.Stuffing.{escapes}
 use Rattle.frame.specs.Content as content
 use Rattle.frame.specs.Content.{payloadMax, contentOf, Read, frame}
-use Rattle.frame.specs.Writing as writing
-use Rattle.frame.specs.Writing.{frameOf, written, refused, writeFrame}
+use Rattle.frame.specs.Writing.{frameOf, writeFrame}
 use Rattle.frame.specs.Reading.{readFrame}
-use Rattle.frame.specs.Answers.{readAnswer, readPayload, ReadsAs, writeAnswer, writtenBytes, WritesAs}
+use Rattle.frame.specs.Answers.{readAnswer, readPayload, ReadsAs}
 use Rattle.frame.specs.declared.content.FrameRead.{FrameRead}
 use Rattle.frame.specs.declared.content.FrameRead.the-variants as read
-use Rattle.frame.specs.declared.writer.Written.{Written}
-use Rattle.frame.specs.declared.writer.Written.the-variants as answered
 use Rattle.frame.proofs.WriteLaws.{content-room, payload-allowed}
-use Rattle.frame.proofs.FrameTheorems.{written-length, wrote, written-read-back}
+use Rattle.frame.proofs.FrameTheorems.{written-length, wrote-frame, written-read-back}
 use Rattle.frame.proofs.writer.write_frame.Reads as write-frame
 use Rattle.frame.proofs.reader.read_frame.Reads as read-frame
 
@@ -48,16 +49,10 @@ record Sent (room kind sequence : ℕ) (payload : List ℕ) (n : ℕ) (after : L
 
 module _ (kind sequence : ℕ) (payload before after : List ℕ) where
   sent : (n : ℕ) → Writes kind sequence payload before (answered.Length n) after → Sent (length before) kind sequence payload n after
-  sent n w = cases (writeFrame (length before) kind sequence payload) refl (was-written w)
-    where
-      cases : (result : writing.Written) → writeFrame (length before) kind sequence payload ≡ result → WritesAs result before (answered.Length n) after
-          → Sent (length before) kind sequence payload n after
-      cases (refused m) e did = let a = did .answers in impossible cc
-      cases (written bytes) e did =
-          let a = did .answers in
-          let size : n ≡ length bytes = cc in
-          let fits = wrote (length before) kind sequence payload bytes e .fits in
-          record { bytes = bytes; is = e; first = put-told before after bytes n (did .output) size fits }
+  sent n w =
+      let t = told (writeFrame (length before) kind sequence payload) before n after (was-written w) in
+      let fits = wrote-frame (length before) kind sequence payload (t .bytes) (t .is) .fits in
+      record { bytes = t .bytes; is = t .is; first = put-told before after (t .bytes) n (t .put) (t .size) fits }
 
   -- THEOREM. Behind a call of `write_frame` that answered n, the first n bytes of its output, read by a call of `read_frame` with an output
   -- of at least 383 bytes, are answered by type, sequence and the payload's length, and the payload stands at the start of that output.
@@ -73,11 +68,7 @@ module _ (kind sequence : ℕ) (payload before after : List ℕ) where
 
   -- a refused call leaves the output as it was, of the writer and of the reader
   pub refused-write-keeps : (m : ℕ) → Writes kind sequence payload before (answered.Refused m) after → after ≡ before
-  refused-write-keeps m w = cases (writeFrame (length before) kind sequence payload) (was-written w)
-    where
-      cases : (result : writing.Written) → WritesAs result before (answered.Refused m) after → after ≡ before
-      cases (refused k) did = did .output
-      cases (written bytes) did = let a = did .answers in impossible cc
+  refused-write-keeps m w = refusal-keeps (writeFrame (length before) kind sequence payload) before m after (was-written w)
 
 pub refused-read-keeps : (bytes before : List ℕ) (m : ℕ) (after : List ℕ) → Reads bytes before (read.Refused m) after → after ≡ before
 refused-read-keeps bytes before m after r = cases (readFrame (length before) bytes) (was-read r)
@@ -95,7 +86,7 @@ module _ (kind sequence : ℕ) (payload out : List ℕ) where
   pub every-payload-is-judged :
       Writes kind sequence payload out (writeAnswer (writeFrame (length out) kind sequence payload))
       (putAt out 0 (writtenBytes (writeFrame (length out) kind sequence payload)))
-  every-payload-is-judged = in-out-call tt (record { answers = refl; output = refl })
+  every-payload-is-judged = in-out-call tt (record { answers = refl; put = refl })
 
   module _ (short : length payload ≤ payloadMax) (room : sentLength kind sequence payload ≤ length out) where
     pub is-written : writeFrame (length out) kind sequence payload ≡ written (frameOf kind sequence payload)
@@ -109,7 +100,7 @@ module _ (kind sequence : ℕ) (payload out : List ℕ) where
         → (answer ≡ answered.Length (sentLength kind sequence payload)) × (after ≡ putAt out 0 (frameOf kind sequence payload))
     room-enough answer after w =
         let did = was-written w in
-        (did .answers ∙ rw (is-written, written-length kind sequence payload), did .output ∙ rw is-written)
+        (did .answers ∙ rw (is-written, written-length kind sequence payload), did .put ∙ rw is-written)
 
     -- and there is such a call
     pub every-frame-is-written : Writes kind sequence payload out (answered.Length (sentLength kind sequence payload)) (putAt out 0 (frameOf kind sequence payload))

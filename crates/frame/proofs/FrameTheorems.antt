@@ -3,23 +3,24 @@
 -- content and two flags.
 use mathlib.Core.Path.{_≡_, refl, sym, ap, _∙_}
 use mathlib.Core.Bool.{Bool, true, false, cond}
-use mathlib.Core.List.{List, [], _∷_, _++_, append-assoc}
-use Prim.Native.Nat.{ℕ, suc, _+_, _-_, _≤_}
+use mathlib.Core.List.{List, [], _∷_, _++_}
+use Prim.Native.Nat.{ℕ, suc, _+_, _-_, _*_, _≤_}
 use native.Mathlib.Omega.{arith}
-use lib.Dec.{eqb, ltb}
+use lib.Dec.{ltb}
 use lib.ListN.{length, length-append}
 use lib.Seq.{take-at}
-use borrow.Author.Tests.{eq-eqb, le-leb, ltb-false}
+use borrow.Author.Tests.{eq-eqb, le-leb}
 use Rattle.refusals.specs.Numbers.{badFraming, shortOutput, longPayload}
 use Rattle.crc.specs.Crc.{linkStart, crcOf, checkBytes}
 use Rattle.crc.proofs.CrcLaws.{crc-checked}
 use Rattle.slices.proofs.Impossible.{impossible}
-use Rattle.slices.specs.Each.{each}
+use Rattle.slices.specs.Written.{written}
+use Rattle.slices.proofs.WrittenLaws.{Wrote, wrote}
 use Rattle.frame.specs.Stuffing as stuffing
-use Rattle.frame.specs.Stuffing.{flagByte, contentMax, stuffByte, stuff, escapes, unstuff}
+use Rattle.frame.specs.Stuffing.{flagByte, contentMax, stuff, escapes, unstuff}
 use Rattle.frame.specs.Content as content
 use Rattle.frame.specs.Content.{payloadMax, contentOf, frame, judged}
-use Rattle.frame.specs.Writing.{framed, frameOf, written, refused, writeContent, writeFrame}
+use Rattle.frame.specs.Writing.{framed, frameOf, writeContent, writeFrame}
 use Rattle.frame.specs.Reading.{firstFlag, flaggedBytes, between, judgedContent, readRun, readFrame}
 use Rattle.frame.specs.Answers.{readAnswer}
 use Rattle.frame.proofs.BoundLaws.{unstuff-bounded}
@@ -27,30 +28,7 @@ use Rattle.frame.proofs.ContentLaws.{judged-good, answer-frame}
 use Rattle.frame.proofs.ReadLaws.{frame-run, run-content}
 use Rattle.frame.proofs.WriteLaws.{length-framed}
 use Rattle.frame.proofs.StuffLaws.{length-stuff}
-use Rattle.frame.proofs.StuffTheorems.{unstuff-stuff, stuffed-length}
-
--- a stuffed byte holds no flag
-byte-without-flag : (b : ℕ) (rest : List ℕ) → firstFlag (stuffByte b ++ rest) ≡ length (stuffByte b) + firstFlag rest
-unfolding firstFlag
-byte-without-flag b rest = cases (eqb b 0x7e) (eqb b 0x7d) refl
-  where
-    two : (second : ℕ) → eqb second 0x7e ≡ false → firstFlag (0x7d ∷ second ∷ rest) ≡ 2 + firstFlag rest
-    two second e = rw e (omega arith)
-
-    cases : (t u : Bool) → eqb b 0x7e ≡ t
-        → firstFlag (cond t (0x7d ∷ 0x5e ∷ []) (cond u (0x7d ∷ 0x5d ∷ []) (b ∷ [])) ++ rest)
-        ≡ length (cond t (0x7d ∷ 0x5e ∷ []) (cond u (0x7d ∷ 0x5d ∷ []) (b ∷ []))) + firstFlag rest
-    cases true u e = two 0x5e refl
-    cases false true e = two 0x5d refl
-    cases false false e = rw e (omega arith)
-
-stuffed-without-flag : (c rest : List ℕ) → firstFlag (stuff c ++ rest) ≡ length (stuff c) + firstFlag rest
-unfolding each
-stuffed-without-flag [] rest = omega arith
-stuffed-without-flag (b ∷ bs) rest =
-    let first = byte-without-flag b (stuff bs ++ rest) in
-    let sizes = length-append (stuffByte b) (stuff bs) in
-    rw (append-assoc (stuffByte b) (stuff bs) rest) (omega (arith, first, sizes, stuffed-without-flag bs rest))
+use Rattle.frame.proofs.StuffTheorems.{unstuff-stuff, stuffed-length, stuffed-without-flag}
 
 -- THEOREM. A written frame has a flag first, a flag last and none between.
 pub framed-flags : (c : List ℕ) → flaggedBytes (framed c) ≡ true
@@ -106,35 +84,16 @@ frame-read-back room kind sequence payload asked short =
     ∙ content-judged kind sequence payload
 
 -- a frame was written only of a payload of at most 383 bytes and into room enough, and it is the frame of the three
-pub record Wrote (room kind sequence : ℕ) (payload sent : List ℕ) : Type 0 where
-  pub short : length payload ≤ payloadMax
-  pub fits : length sent ≤ room
-  pub is : sent ≡ frameOf kind sequence payload
-
-pub wrote : (room kind sequence : ℕ) (payload sent : List ℕ) → writeFrame room kind sequence payload ≡ written sent
-    → Wrote room kind sequence payload sent
+pub wrote-frame : (room kind sequence : ℕ) (payload sent : List ℕ) → writeFrame room kind sequence payload ≡ written sent
+    → Wrote payloadMax (length payload) room (frameOf kind sequence payload) sent
 unfolding writeFrame writeContent
-wrote room kind sequence payload sent e =
-    cases (ltb payloadMax (length payload)) (ltb room (length (frameOf kind sequence payload))) refl refl e
-  where
-    cases : (t u : Bool) → ltb payloadMax (length payload) ≡ t → ltb room (length (frameOf kind sequence payload)) ≡ u
-        → cond t (refused longPayload) (cond u (refused shortOutput) (written (frameOf kind sequence payload))) ≡ written sent
-        → Wrote room kind sequence payload sent
-    cases true u f g e = impossible cc
-    cases false true f g e = impossible cc
-    cases false false f g e =
-        let same : sent ≡ frameOf kind sequence payload = cc in
-        record {
-          short = ltb-false payloadMax (length payload) f;
-          fits = rw same (ltb-false room (length (frameOf kind sequence payload)) g);
-          is = same;
-        }
+wrote-frame room kind sequence payload sent e = wrote payloadMax (length payload) room longPayload (frameOf kind sequence payload) sent e
 
 -- THEOREM. Whatever the writer wrote is read back as its type, sequence and payload.
 pub written-read-back : (room kind sequence : ℕ) (payload sent : List ℕ) (room₁ : ℕ) → writeFrame room kind sequence payload ≡ written sent
     → payloadMax ≤ room₁ → readFrame room₁ sent ≡ frame kind sequence payload
 written-read-back room kind sequence payload sent room₁ e asked =
-    let w = wrote room kind sequence payload sent e in
+    let w = wrote-frame room kind sequence payload sent e in
     rw (w .is) (frame-read-back room₁ kind sequence payload asked (w .short))
 
 -- a frame that was read has a payload of at most 383 bytes, whatever its room and bytes
@@ -159,10 +118,10 @@ read-bounded room bytes kind sequence payload e = cases (ltb room payloadMax) (f
     cases false true e = run-bounded (between bytes) kind sequence payload e
     cases false false e = impossible cc
 
--- a frame that was written has at most 776 bytes
+-- a frame that was written has at most two bytes for each of content, and its two flags
 pub written-bounded : (room kind sequence : ℕ) (payload sent : List ℕ) → writeFrame room kind sequence payload ≡ written sent
-    → length sent ≤ 776
+    → length sent ≤ 2 + 2 * contentMax
 written-bounded room kind sequence payload sent e =
-    let w = wrote room kind sequence payload sent e in
+    let w = wrote-frame room kind sequence payload sent e in
     let c = contentOf kind sequence payload in
     rw (w .is) (omega (arith, w .short, length-framed c, length-stuff c, content-length kind sequence payload))

@@ -1,6 +1,9 @@
 pub mod StuffLaws
 pub mod UnstuffLaws
 pub mod BoundLaws
+pub mod RefusalLaws
+pub mod SentLaws
+pub mod ReadersLaws
 pub mod ContentLaws
 pub mod ReadLaws
 pub mod WriteLaws
@@ -8,4 +11,3 @@ pub mod StuffTheorems
 pub mod FrameTheorems
 pub mod FrameCalls
 pub mod FlagLaws
-pub mod RefusalLaws

@@ -1,19 +1,41 @@
 -- A frame is refused by 1 to 4: unstuffing refuses by 1 and 2, and the judge of content by 3 and 4.
 use mathlib.Core.Path.{_≡_, refl}
 use mathlib.Core.Bool.{Bool, true, false, cond}
-use mathlib.Core.List.{List}
-use Prim.Native.Nat.{ℕ, _≤_}
+use mathlib.Core.List.{List, [], _∷_}
+use Prim.Native.Nat.{ℕ, suc, _≤_}
 use native.Mathlib.Omega.{arith}
 use lib.Dec.{eqb, ltb}
 use lib.ListN.{length, getD}
 use Rattle.slices.proofs.Impossible.{impossible}
-use Rattle.refusals.specs.Numbers.{shortContent, badCheck}
+use Rattle.refusals.specs.Numbers.{longContent, shortContent, badCheck}
 use Rattle.crc.specs.Crc.{linkStart, crcOf}
 use Rattle.frame.specs.Stuffing as stuffing
-use Rattle.frame.specs.Stuffing.{Unstuffed, unstuffFrom, unstuff}
-use Rattle.frame.specs.Content.{payloadOf, Read, frame, refused, judged}
+use Rattle.frame.specs.Stuffing.{State, plain, escaped, Meaning, escapes-next, stands-for, faulty, meaning, Unstuffed, joined, taken, contentMax, unstuffFrom, unstuff}
+use Rattle.frame.specs.Content.{payloadOf, frame, refused, judged}
 use Rattle.frame.specs.Reading.{judgedContent, readRun}
-use Rattle.frame.proofs.BoundLaws.{refused-number}
+
+-- what unstuffing refuses by
+module _ (held : ℕ) (rest : State → ℕ → Unstuffed) (n : ℕ)
+    (known : (s₁ : State) (held₁ : ℕ) → rest s₁ held₁ ≡ stuffing.refused n → (1 ≤ n) × (n ≤ 2)) where
+  joined-refused : (v : ℕ) (found : Unstuffed) → joined v found ≡ stuffing.refused n → found ≡ stuffing.refused n
+  joined-refused v (stuffing.content c) e = impossible cc
+  joined-refused v (stuffing.refused m) e = e
+
+  byte-refused : (v : ℕ) (t : Bool) → cond t (joined v (rest plain (suc held))) (stuffing.refused longContent) ≡ stuffing.refused n → (1 ≤ n) × (n ≤ 2)
+  byte-refused v true e = known plain (suc held) (joined-refused v (rest plain (suc held)) e)
+  byte-refused v false e = let is : n ≡ 2 = cc in omega arith
+
+  taken-refused : (m : Meaning) → taken m held rest ≡ stuffing.refused n → (1 ≤ n) × (n ≤ 2)
+  taken-refused escapes-next e = known escaped held e
+  taken-refused (stands-for v) e = byte-refused v (ltb held contentMax) e
+  taken-refused faulty e = let is : n ≡ 1 = cc in omega arith
+
+pub refused-number : (s : State) (held : ℕ) (bytes : List ℕ) (n : ℕ) → unstuffFrom s held bytes ≡ stuffing.refused n → (1 ≤ n) × (n ≤ 2)
+unfolding unstuffFrom
+refused-number plain held [] n e = impossible cc
+refused-number escaped held [] n e = let is : n ≡ 1 = cc in omega arith
+refused-number s held (b ∷ bs) n e =
+    taken-refused held (λ s₁ held₁. unstuffFrom s₁ held₁ bs) n (λ s₁ held₁. refused-number s₁ held₁ bs n) (meaning s b) e
 
 module _ (n : ℕ) where
   by-number : (m : ℕ) → 1 ≤ m → m ≤ 4 → refused m ≡ refused n → (1 ≤ n) × (n ≤ 4)
@@ -31,10 +53,10 @@ module _ (n : ℕ) where
 
   pub run-number : (run : List ℕ) → readRun run ≡ refused n → (1 ≤ n) × (n ≤ 4)
   unfolding readRun unstuff
-  run-number run e = by-unstuffed (unstuffFrom stuffing.plain 0 run) refl e
+  run-number run e = by-unstuffed (unstuffFrom plain 0 run) refl e
     where
-      by-unstuffed : (found : Unstuffed) → unstuffFrom stuffing.plain 0 run ≡ found → judgedContent found ≡ refused n → (1 ≤ n) × (n ≤ 4)
+      by-unstuffed : (found : Unstuffed) → unstuffFrom plain 0 run ≡ found → judgedContent found ≡ refused n → (1 ≤ n) × (n ≤ 4)
       by-unstuffed (stuffing.refused m) f e =
-          let known = refused-number stuffing.plain 0 run m f in
+          let known = refused-number plain 0 run m f in
           by-number m (known .0) (omega (arith, known .1)) e
       by-unstuffed (stuffing.content c) f e = judged-number c e

@@ -1,7 +1,7 @@
--- Unstuffing undoes stuffing, and stuffing adds one byte for each escape: byte by byte, by what each byte becomes.
+-- Unstuffing undoes stuffing, and stuffing adds one byte for each escape and no flag: byte by byte, by what each byte becomes.
 use mathlib.Core.Path.{_≡_, refl, ap, _∙_}
 use mathlib.Core.Bool.{Bool, true, false, cond}
-use mathlib.Core.List.{List, [], _∷_, _++_}
+use mathlib.Core.List.{List, [], _∷_, _++_, append-assoc}
 use Prim.Native.Nat.{ℕ, suc, _+_, _≤_, _<_}
 use native.Mathlib.Nat.{zero-add}
 use native.Mathlib.Omega.{arith}
@@ -11,6 +11,7 @@ use borrow.Author.Tests.{eqb-true, ltb-true, ltb-false, le-leb, lt-leb}
 use Rattle.refusals.specs.Numbers.{longContent}
 use Rattle.slices.specs.Each.{each}
 use Rattle.frame.specs.Stuffing.{plain, stands-for, Unstuffed, content, refused, joined, taken, contentMax, stuffByte, stuff, escapes, unstuffFrom, unstuff}
+use Rattle.frame.specs.Reading.{firstFlag}
 
 -- a stuffed byte stands for itself
 stuffed-byte : (held b : ℕ) (rest : List ℕ)
@@ -78,3 +79,26 @@ stuffed-length (b ∷ bs) =
     one-byte true u = refl
     one-byte false true = refl
     one-byte false false = refl
+
+-- a stuffed byte holds no flag
+byte-without-flag : (b : ℕ) (rest : List ℕ) → firstFlag (stuffByte b ++ rest) ≡ length (stuffByte b) + firstFlag rest
+unfolding firstFlag
+byte-without-flag b rest = cases (eqb b 0x7e) (eqb b 0x7d) refl
+  where
+    two : (second : ℕ) → eqb second 0x7e ≡ false → firstFlag (0x7d ∷ second ∷ rest) ≡ 2 + firstFlag rest
+    two second e = rw e (omega arith)
+
+    cases : (t u : Bool) → eqb b 0x7e ≡ t
+        → firstFlag (cond t (0x7d ∷ 0x5e ∷ []) (cond u (0x7d ∷ 0x5d ∷ []) (b ∷ [])) ++ rest)
+        ≡ length (cond t (0x7d ∷ 0x5e ∷ []) (cond u (0x7d ∷ 0x5d ∷ []) (b ∷ []))) + firstFlag rest
+    cases true u e = two 0x5e refl
+    cases false true e = two 0x5d refl
+    cases false false e = rw e (omega arith)
+
+pub stuffed-without-flag : (c rest : List ℕ) → firstFlag (stuff c ++ rest) ≡ length (stuff c) + firstFlag rest
+unfolding each
+stuffed-without-flag [] rest = omega arith
+stuffed-without-flag (b ∷ bs) rest =
+    let first = byte-without-flag b (stuff bs ++ rest) in
+    let sizes = length-append (stuffByte b) (stuff bs) in
+    rw (append-assoc (stuffByte b) (stuff bs) rest) (omega (arith, first, sizes, stuffed-without-flag bs rest))

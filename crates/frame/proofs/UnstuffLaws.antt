@@ -1,18 +1,16 @@
 -- One byte of unstuffing, one law for each way that a reader goes: at the end, and by what the first byte means.
-use mathlib.Core.Path.{_≡_, refl, _∙_}
-use mathlib.Core.List.{List, [], _∷_}
+use mathlib.Core.Path.{_≡_, refl}
+use mathlib.Core.List.{List, _∷_}
 use mathlib.Core.Bool.{Bool, true, false}
 use Prim.Native.Nat.{ℕ, suc, _+_, _≤_, _<_}
 use native.Mathlib.Numerals.{add-one}
 use native.Mathlib.Omega.{arith}
-use lib.ListN.{length, take, drop, getD, set, length-take, drop-of-length-le}
+use lib.ListN.{length, take, drop, getD, length-take, drop-of-length-le}
 use lib.Seq.{drop-cons, getD-take}
 use lib.Dec.{eqb}
 use borrow.Author.Tests.{eq-eqb, ne-eqb, eqb-true, eqb-false, lt-ltb, le-ltb}
-use Rattle.slices.proofs.Impossible.{impossible}
 use Rattle.refusals.specs.Numbers.{badFraming, longContent}
-use Rattle.frame.specs.Stuffing.{State, plain, escaped, escapes-next, stands-for, faulty, meaning, Unstuffed, content, refused, joined, closed, contentMax, unstuffFrom}
-use Rattle.frame.specs.Answers.{UnstuffsAs}
+use Rattle.frame.specs.Stuffing.{State, plain, escaped, escapes-next, stands-for, faulty, meaning, refused, joined, closed, contentMax, unstuffFrom}
 
 -- what a byte means in the plain state
 pub plain-escape : (b : ℕ) → b ≡ 0x7d → meaning plain b ≡ escapes-next
@@ -70,28 +68,3 @@ module _ (s : State) (held : ℕ) (sent : List ℕ) (count at : ℕ) where
         → unstuffFrom s held (drop at (take count sent)) ≡ refused longContent
     unfolding unstuffFrom
     unstuff-full v e full = rw (left sent count at fits h, e, le-ltb held contentMax full)
-
--- a byte stored and the rest unstuffed behind it: the byte in front of the rest
-pub stored : (found : Unstuffed) (v held : ℕ) (array : List ℕ) (r : ℕ) (exit : List ℕ)
-    → UnstuffsAs found (held + 1) (set array held v) r exit → UnstuffsAs (joined v found) held array r exit
-stored (content c) v held array r exit u =
-    let more : held + 1 + length c ≡ held + suc (length c) = omega arith in
-    record {
-      answers = u .answers ∙ more;
-      array-filled = λ c₁ e.
-          let same : v ∷ c ≡ c₁ = cc in
-          rw add-one at (u .array-filled c refl) ∙ rw (← same);
-    }
-stored (refused n) v held array r exit u =
-    record { answers = u .answers; array-filled = λ c₁ e. impossible cc }
-
--- a refusal says nothing of the array
-pub stopped : (n held : ℕ) (array exit : List ℕ) → UnstuffsAs (refused n) held array (contentMax + n) exit
-stopped n held array exit =
-    record { answers = refl; array-filled = λ c₁ e. impossible cc }
-
--- at the closing flag, out of the escaped state, the content is whole
-pub ended : (held : ℕ) (array : List ℕ) → UnstuffsAs (content []) held array held array
-ended held array =
-    let all : held ≡ held + 0 = omega arith in
-    record { answers = all; array-filled = λ c e. let none : [] ≡ c = cc in rw (← none) }

@@ -1,15 +1,11 @@
 -- What the functions promise: their answers as enums, and the lent bytes, from the definitions of the papers' words.
-use Prim.Native.Nat.{ℕ, _+_}
+use Prim.Native.Nat.{ℕ}
 use mathlib.Core.Path.{_≡_}
 use mathlib.Core.List.{List, []}
 use lib.ListN.{length}
 use Rattle.slices.specs.Put.{putAt}
-use Rattle.frame.specs.Stuffing as stuffing
-use Rattle.frame.specs.Stuffing.{contentMax}
 use Rattle.frame.specs.Content as content
-use Rattle.frame.specs.Writing as writing
 use Rattle.frame.specs.declared.content.FrameRead as read
-use Rattle.frame.specs.declared.writer.Written as written
 
 -- the reader's answer: type, sequence and the payload's length, or the refusal's number
 abbrev pub readAnswer : content.Read → read.FrameRead
@@ -25,28 +21,3 @@ readPayload (content.refused n) = []
 pub record ReadsAs (found : content.Read) (out : List ℕ) (answer : read.FrameRead) (exit : List ℕ) : Type 0 where
   pub answers : answer ≡ readAnswer found
   pub output : exit ≡ putAt out 0 (readPayload found)
-
--- the writer's answer: the length of the frame, or the refusal's number
-abbrev pub writeAnswer : writing.Written → written.Written
-writeAnswer (writing.written sent) = written.the-variants.Length (length sent)
-writeAnswer (writing.refused n) = written.the-variants.Refused n
-
-abbrev pub writtenBytes : writing.Written → List ℕ
-writtenBytes (writing.written sent) = sent
-writtenBytes (writing.refused n) = []
-
--- what was written is answered, and put at the start of the output
-pub record WritesAs (result : writing.Written) (out : List ℕ) (answer : written.Written) (exit : List ℕ) : Type 0 where
-  pub answers : answer ≡ writeAnswer result
-  pub output : exit ≡ putAt out 0 (writtenBytes result)
-
--- how much content there is with the bytes held before, or a refusal, as a number above any length of content
-abbrev pub unstuffAnswer : ℕ → stuffing.Unstuffed → ℕ
-unstuffAnswer held (stuffing.content c) = held + length c
-unstuffAnswer held (stuffing.refused n) = contentMax + n
-
--- What was unstuffed behind `held` bytes of content is answered, and stands in the array where it is no refusal. What a refused
--- frame leaves in that array of the reader's own is open.
-pub record UnstuffsAs (found : stuffing.Unstuffed) (held : ℕ) (array : List ℕ) (answer : ℕ) (exit : List ℕ) : Type 0 where
-  pub answers : answer ≡ unstuffAnswer held found
-  pub array-filled : (c : List ℕ) → found ≡ stuffing.content c → exit ≡ putAt array held c

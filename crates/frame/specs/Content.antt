@@ -10,6 +10,14 @@ use Rattle.crc.specs.Crc.{linkStart, crcOf, checkBytes}
 abbrev pub payloadMax : ℕ
 payloadMax = 383
 
+-- type and sequence, in front of the payload
+abbrev pub headerSize : ℕ
+headerSize = 2
+
+-- the least content: type, sequence and two bytes of check
+abbrev pub contentMin : ℕ
+contentMin = 4
+
 -- the check covers type, sequence and payload, and stands behind them
 unfoldable pub contentOf : ℕ → ℕ → List ℕ → List ℕ
 contentOf kind sequence payload =
@@ -23,10 +31,10 @@ pub data Read : Type 0 where
 
 -- what stands between type and sequence and the two bytes of check
 abbrev pub payloadOf : List ℕ → List ℕ
-payloadOf c = take (length c - 4) (drop 2 c)
+payloadOf c = take (length c - contentMin) (drop headerSize c)
 
 -- 01, Refusal numbers: under 4 bytes is refusal 3, a check over the whole content other than 0 is refusal 4
 unfoldable pub judged : List ℕ → Read
 judged c =
-    cond (ltb (length c) 4) (refused shortContent)
+    cond (ltb (length c) contentMin) (refused shortContent)
     (cond (eqb (crcOf linkStart c) 0) (frame (getD c 0 0) (getD c 1 0) (payloadOf c)) (refused badCheck))

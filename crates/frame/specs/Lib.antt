@@ -3,3 +3,4 @@ pub mod Content
 pub mod Writing
 pub mod Reading
 pub mod Answers
+pub mod ReaderSteps

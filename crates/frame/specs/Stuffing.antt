@@ -12,12 +12,21 @@ flagByte = 0x7e
 abbrev pub escapeByte : ℕ
 escapeByte = 0x7d
 
+-- what stands for them behind an escape byte
+abbrev pub escapedFlag : ℕ
+escapedFlag = 0x5e
+
+abbrev pub escapedEscape : ℕ
+escapedEscape = 0x5d
+
 -- unstuffed content has at most this many bytes: type, sequence, 383 bytes of payload, two of check
 abbrev pub contentMax : ℕ
 contentMax = 387
 
 abbrev pub stuffByte : ℕ → List ℕ
-stuffByte b = cond (eqb b 0x7e) (0x7d ∷ 0x5e ∷ []) (cond (eqb b 0x7d) (0x7d ∷ 0x5d ∷ []) (b ∷ []))
+stuffByte b =
+    cond (eqb b flagByte) (escapeByte ∷ escapedFlag ∷ [])
+    (cond (eqb b escapeByte) (escapeByte ∷ escapedEscape ∷ []) (b ∷ []))
 
 abbrev pub stuff : List ℕ → List ℕ
 stuff content = each stuffByte content
@@ -25,7 +34,7 @@ stuff content = each stuffByte content
 -- how many bytes of a string are escaped
 unfoldable pub escapes : List ℕ → ℕ
 escapes [] = 0
-escapes (b ∷ bs) = cond (eqb b 0x7e) 1 (cond (eqb b 0x7d) 1 0) + escapes bs
+escapes (b ∷ bs) = cond (eqb b flagByte) 1 (cond (eqb b escapeByte) 1 0) + escapes bs
 
 -- 01, Frames: after an escape byte a reader is in the escaped state for exactly one byte, then plain again
 pub data State : Type 0 where
@@ -39,8 +48,8 @@ pub data Meaning : Type 0 where
   faulty : Meaning
 
 abbrev pub meaning : State → ℕ → Meaning
-meaning plain b = cond (eqb b 0x7d) escapes-next (stands-for b)
-meaning escaped b = cond (eqb b 0x5e) (stands-for 0x7e) (cond (eqb b 0x5d) (stands-for 0x7d) faulty)
+meaning plain b = cond (eqb b escapeByte) escapes-next (stands-for b)
+meaning escaped b = cond (eqb b escapedFlag) (stands-for flagByte) (cond (eqb b escapedEscape) (stands-for escapeByte) faulty)
 
 -- unstuffing gives the content, or refusal 1 or 2
 pub data Unstuffed : Type 0 where

@@ -4,7 +4,8 @@ use mathlib.Core.Bool.{cond}
 use mathlib.Core.List.{List, [], _∷_, _++_}
 use lib.Dec.{ltb}
 use lib.ListN.{length}
-use Rattle.refusals.specs.Numbers.{shortOutput, longPayload}
+use Rattle.refusals.specs.Numbers.{longPayload}
+use Rattle.slices.specs.Written.{Output, refused, fitted}
 use Rattle.frame.specs.Content.{payloadMax, contentOf}
 use Rattle.frame.specs.Stuffing.{flagByte, stuff}
 
@@ -15,16 +16,11 @@ framed content = flagByte ∷ stuff content ++ (flagByte ∷ [])
 abbrev pub frameOf : ℕ → ℕ → List ℕ → List ℕ
 frameOf kind sequence payload = framed (contentOf kind sequence payload)
 
--- the frame that was written, or a refusal
-pub data Written : Type 0 where
-  written : List ℕ → Written
-  refused : ℕ → Written
-
 -- 01, Refusal numbers: a lent output with too little room is refusal 7
-unfoldable pub writeContent : ℕ → List ℕ → Written
-writeContent room content = cond (ltb room (length (framed content))) (refused shortOutput) (written (framed content))
+unfoldable pub writeContent : ℕ → List ℕ → Output
+writeContent room content = fitted room (framed content)
 
 -- before that, a payload over 383 bytes is refusal 8
-unfoldable pub writeFrame : ℕ → ℕ → ℕ → List ℕ → Written
+unfoldable pub writeFrame : ℕ → ℕ → ℕ → List ℕ → Output
 writeFrame room kind sequence payload =
     cond (ltb payloadMax (length payload)) (refused longPayload) (writeContent room (contentOf kind sequence payload))

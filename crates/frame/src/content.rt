@@ -1,5 +1,6 @@
 // Unstuffed content: type, sequence, payload, check.
 use crate::CHECK_START;
+use crate::CONTENT_MIN;
 use refusals::BAD_CHECK;
 use refusals::SHORT_CONTENT;
 ghost use mathlib.Core.Path.{_≡_};
@@ -21,7 +22,7 @@ pub enum FrameRead {
 pub fn judge(content: &[u8]) -> FrameRead
     ensures { λ r. ⌜ r ≡ readAnswer (judged (now (content .entry))) ⌝ }
 {
-    if content.len() < 4 {
+    if content.len() < CONTENT_MIN {
         return FrameRead::Refused(SHORT_CONTENT);
     }
     if crc::check(CHECK_START, content) != 0 {
@@ -30,6 +31,6 @@ pub fn judge(content: &[u8]) -> FrameRead
     FrameRead::Frame {
         kind: content[0],
         sequence: content[1],
-        length: content.len() - 4,
+        length: content.len() - CONTENT_MIN,
     }
 }

@@ -2,6 +2,7 @@
 // frame writer, the reader of one whole frame, and the judge of unstuffed content.
 pub mod content;
 pub mod reader;
+mod unstuffing;
 pub mod writer;
 
 // Opens and closes each frame.
@@ -14,7 +15,11 @@ pub const ESCAPED_FLAG: u8 = 0x5e;
 pub const ESCAPED_ESCAPE: u8 = 0x5d;
 
 pub const PAYLOAD_MAX: usize = 383;
-// Type, sequence, payload and two bytes of check.
+// Type and sequence, in front of the payload.
+pub const HEADER_SIZE: usize = 2;
+// The least content: type, sequence and two bytes of check.
+pub const CONTENT_MIN: usize = 4;
+// The most: a payload of 383 bytes with them.
 pub const CONTENT_MAX: usize = 387;
 // The start value of this link's check.
 pub const CHECK_START: u16 = 0xffff;

@@ -7,20 +7,15 @@ use crate::FLAG;
 use crate::PAYLOAD_MAX;
 use refusals::LONG_PAYLOAD;
 use refusals::SHORT_OUTPUT;
+pub use slices::Written;
 ghost use mathlib.Core.Path.{_≡_};
 ghost use Prim.Native.Nat.{_+_, _≤_};
 ghost use mathlib.Core.List.{[], _∷_, _++_};
 ghost use lib.ListN.{length};
 ghost use Rattle.slices.specs.Put.{putAt};
-ghost use Rattle.frame.specs.Stuffing.{contentMax, stuffByte, stuff};
+ghost use Rattle.slices.specs.Written.{WritesAs};
+ghost use Rattle.frame.specs.Stuffing.{escapeByte, contentMax, stuffByte, stuff};
 ghost use Rattle.frame.specs.Writing.{writeContent, writeFrame};
-ghost use Rattle.frame.specs.Answers.{WritesAs};
-
-// How many bytes were written, or why none was.
-pub enum Written {
-    Length(usize),
-    Refused(u8),
-}
 
 // Writes the frame of a type, a sequence and a payload at the start of `out`: refusal 8 for a
 // payload over 383 bytes, then refusal 7 where `out` has too little room.
@@ -111,7 +106,7 @@ fn put_byte(out: &mut [u8], at: usize, byte: u8) -> usize
 // Puts an escape byte and the byte behind it at the place `at`, and answers the place behind both.
 fn put_pair(out: &mut [u8], at: usize, second: u8) -> usize
     requires { ⌜ at + 2 ≤ length (now out) ⌝ }
-    ensures { λ r. ⌜ (r ≡ at + 2) × (now (out .exit) ≡ putAt (now (out .entry)) at (0x7d ∷ second ∷ [])) ⌝ }
+    ensures { λ r. ⌜ (r ≡ at + 2) × (now (out .exit) ≡ putAt (now (out .entry)) at (escapeByte ∷ second ∷ [])) ⌝ }
 {
     out[at] = ESCAPE;
     out[at + 1] = second;

@@ -9,16 +9,17 @@ use lib.Dec.{ltb}
 use lib.ListN.{length, take}
 use Rattle.refusals.specs.Numbers.{shortOutput, longPayload}
 use Rattle.slices.specs.Put.{putAt}
+use Rattle.slices.specs.Written as writing
+use Rattle.slices.specs.Written.{Output, fitted, writtenBytes}
 use Rattle.slices.proofs.PutLaws.{put-told}
 use Rattle.slices.proofs.Lent.{InCall, InOutCall, in-call, in-out-call}
 use Rattle.crc.specs.Crc.{crcOf, checkBytes}
 use Rattle.crc.proofs.CrcLaws.{crc-checked}
 use Rattle.frame.specs.Content.{payloadMax, frame}
-use Rattle.frame.specs.Writing as writing
 use Rattle.frame.specs.Writing.{frameOf, writeContent, writeFrame}
 use Rattle.frame.specs.Reading.{readFrame}
-use Rattle.frame.specs.Answers.{readPayload, writtenBytes}
-use Rattle.frame.proofs.FrameTheorems.{written-length, wrote, written-read-back, written-bounded}
+use Rattle.frame.specs.Answers.{readPayload}
+use Rattle.frame.proofs.FrameTheorems.{written-length, wrote-frame, written-read-back, written-bounded}
 use Rattle.frame.proofs.FrameCalls.{sentLength, is-written}
 use Rattle.host.specs.Report.{refusalIn, lengthIn, Parts, reportOf, readReport, writtenReport, ReportsRead, ReportsWritten}
 use Rattle.host.proofs.ReportLaws.{parts-read}
@@ -54,7 +55,7 @@ checked-is-zero start bytes check answer first second =
     was-checked second ∙ ap (λ (c : ℕ). crcOf start (bytes ++ checkBytes c)) (was-checked first) ∙ crc-checked start bytes
 
 -- what the writer does, by its two tests
-abbrev outcome : ℕ → ℕ → List ℕ → Bool → Bool → writing.Written
+abbrev outcome : ℕ → ℕ → List ℕ → Bool → Bool → Output
 outcome kind sequence payload long short =
     cond long (writing.refused longPayload) (cond short (writing.refused shortOutput) (writing.written (frameOf kind sequence payload)))
 
@@ -66,7 +67,7 @@ record Sent (room kind sequence : ℕ) (payload : List ℕ) (n : ℕ) (after : L
 
 module _ (kind sequence : ℕ) (payload before : List ℕ) (report : ℕ) (after : List ℕ) (w : Writes kind sequence payload before report after) where
   sent : refusalIn report ≡ 0 → Sent (length before) kind sequence payload (lengthIn report) after
-  unfolding writeFrame writeContent
+  unfolding writeFrame writeContent fitted
   sent none = by-tests (ltb payloadMax (length payload)) (ltb (length before) (length (frameOf kind sequence payload))) refl (was-written w)
     where
       by-tests : (long short : Bool) → writeFrame (length before) kind sequence payload ≡ outcome kind sequence payload long short
@@ -76,7 +77,7 @@ module _ (kind sequence : ℕ) (payload before : List ℕ) (report : ℕ) (after
       by-tests false true e did = absurd (let said = did .reports in omega arith)
       by-tests false false e did =
           let bytes = frameOf kind sequence payload in
-          let fits = wrote (length before) kind sequence payload bytes e .fits in
+          let fits = wrote-frame (length before) kind sequence payload bytes e .fits in
           let few = written-bounded (length before) kind sequence payload bytes e in
           let parts = parts-read 0 0 0 (length bytes) (omega arith) (omega arith) (omega arith) (omega (arith, few)) in
           let size : lengthIn report ≡ length bytes = ap lengthIn (did .reports) ∙ parts .of-size in
@@ -90,7 +91,7 @@ module _ (kind sequence : ℕ) (payload before : List ℕ) (report : ℕ) (after
       → Parts report₁ 0 kind sequence (length payload) × (out₁ ≡ putAt out 0 payload)
   call-read-back kind-byte sequence-byte out report₁ out₁ none r asked =
       let s = sent none in
-      let few = wrote (length before) kind sequence payload (s .bytes) (s .is) .short in
+      let few = wrote-frame (length before) kind sequence payload (s .bytes) (s .is) .short in
       let back = written-read-back (length before) kind sequence payload (s .bytes) (length out) (s .is) asked in
       let is : readFrame (length out) (take (lengthIn report) after) ≡ frame kind sequence payload = rw (s .first) back in
       let did = was-read r in

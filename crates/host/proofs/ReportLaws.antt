@@ -1,30 +1,49 @@
 -- Each answer of the frame functions computes to its report, and each part of a report can be read off it, since it has digits
 -- of its own.
-use mathlib.Core.Path.{_≡_, refl}
+use mathlib.Core.Path.{_≡_, refl, ap, _∙_}
 use mathlib.Core.List.{List}
 use Prim.Native.Nat.{ℕ, _≤_, _<_}
 use native.Mathlib.Omega.{arith}
 use lib.ListN.{length}
+use Rattle.slices.specs.Written as writing
+use Rattle.slices.specs.Written.{Output, writeAnswer, WritesAs}
+use Rattle.slices.specs.declared.Written.{Written}
+use Rattle.slices.specs.declared.Written.the-variants as written
 use Rattle.slices.proofs.Impossible.{impossible}
 use Rattle.frame.specs.Content as content
-use Rattle.frame.specs.Writing as writing
-use Rattle.frame.specs.Answers.{readAnswer, writeAnswer}
+use Rattle.frame.specs.Answers.{readAnswer, ReadsAs}
+use Rattle.frame.specs.declared.content.FrameRead.{FrameRead}
 use Rattle.frame.specs.declared.content.FrameRead.the-variants as read
-use Rattle.frame.specs.declared.writer.Written.the-variants as written
-use Rattle.host.specs.Report.{reportOf, Parts, readReport, writtenReport}
+use Rattle.host.specs.Report.{reportOf, Parts, readReport, writtenReport, ReportsRead, ReportsWritten}
 
-pub read-refused : (found : content.Read) (n : ℕ) → read.Refused n ≡ readAnswer found → reportOf n 0 0 0 ≡ readReport found
-read-refused (content.frame k q p) n e = impossible cc
-read-refused (content.refused m) n e = let same : n ≡ m = cc in rw same
+-- what the reader answered is packed, and so is what the writer answered
+abbrev pub packedRead : FrameRead → ℕ
+packedRead (read.Frame kind sequence n) = reportOf 0 kind sequence n
+packedRead (read.Refused n) = reportOf n 0 0 0
 
-pub read-frame : (found : content.Read) (k q n : ℕ) → read.Frame k q n ≡ readAnswer found → reportOf 0 k q n ≡ readReport found
-read-frame (content.frame k₁ q₁ p) k q n e =
-    let kind : k ≡ k₁ = cc in
-    let sequence : q ≡ q₁ = cc in
-    let size : n ≡ length p = cc in
-    rw (kind, sequence, size)
-read-frame (content.refused m) k q n e = impossible cc
+abbrev pub packedWritten : Written → ℕ
+packedWritten (written.Length n) = reportOf 0 0 0 n
+packedWritten (written.Refused n) = reportOf n 0 0 0
 
+pub read-reported : (found : content.Read) (output : List ℕ) (answer : FrameRead) (exit : List ℕ) (report : ℕ) → ReadsAs found output answer exit
+    → report ≡ packedRead answer → ReportsRead found output report exit
+read-reported found output answer exit report did e =
+    record { reports = e ∙ ap packedRead (did .answers) ∙ packed found; payload = did .output }
+  where
+    packed : (found : content.Read) → packedRead (readAnswer found) ≡ readReport found
+    packed (content.frame kind sequence payload) = refl
+    packed (content.refused n) = refl
+
+pub written-reported : (result : Output) (output : List ℕ) (answer : Written) (exit : List ℕ) (report : ℕ) → WritesAs result output answer exit
+    → report ≡ packedWritten answer → ReportsWritten result output report exit
+written-reported result output answer exit report did e =
+    record { reports = e ∙ ap packedWritten (did .answers) ∙ packed result; frame = did .put }
+  where
+    packed : (result : Output) → packedWritten (writeAnswer result) ≡ writtenReport result
+    packed (writing.written sent) = refl
+    packed (writing.refused n) = refl
+
+-- a length that was answered is that of a payload that was read, or of a frame that was written
 pub read-size : (found : content.Read) (k q n limit : ℕ)
     → ((k₁ q₁ : ℕ) (p : List ℕ) → found ≡ content.frame k₁ q₁ p → length p ≤ limit) → read.Frame k q n ≡ readAnswer found → n ≤ limit
 read-size (content.frame k₁ q₁ p) k q n limit bound e =
@@ -32,15 +51,7 @@ read-size (content.frame k₁ q₁ p) k q n limit bound e =
     rw size (bound k₁ q₁ p refl)
 read-size (content.refused m) k q n limit bound e = impossible cc
 
-pub write-refused : (result : writing.Written) (n : ℕ) → written.Refused n ≡ writeAnswer result → reportOf n 0 0 0 ≡ writtenReport result
-write-refused (writing.written sent) n e = impossible cc
-write-refused (writing.refused m) n e = let same : n ≡ m = cc in rw same
-
-pub write-length : (result : writing.Written) (n : ℕ) → written.Length n ≡ writeAnswer result → reportOf 0 0 0 n ≡ writtenReport result
-write-length (writing.written sent) n e = let size : n ≡ length sent = cc in rw size
-write-length (writing.refused m) n e = impossible cc
-
-pub write-size : (result : writing.Written) (n limit : ℕ)
+pub write-size : (result : Output) (n limit : ℕ)
     → ((sent : List ℕ) → result ≡ writing.written sent → length sent ≤ limit) → written.Length n ≡ writeAnswer result → n ≤ limit
 write-size (writing.written sent) n limit bound e =
     let size : n ≡ length sent = cc in

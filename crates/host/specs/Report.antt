@@ -4,9 +4,10 @@ use mathlib.Core.List.{List}
 use Prim.Native.Nat.{ℕ, _+_, _*_, _/_, _%_}
 use lib.ListN.{length}
 use Rattle.slices.specs.Put.{putAt}
+use Rattle.slices.specs.Written as writing
+use Rattle.slices.specs.Written.{Output, writtenBytes}
 use Rattle.frame.specs.Content as content
-use Rattle.frame.specs.Writing as writing
-use Rattle.frame.specs.Answers.{readPayload, writtenBytes}
+use Rattle.frame.specs.Answers.{readPayload}
 
 -- the refusal's number in bits 0 to 7 (0: none), type in 8 to 15, sequence in 16 to 23, length in 24 to 39; the bits above, kept
 -- for a place, are 0
@@ -39,7 +40,7 @@ readReport (content.frame kind sequence payload) = reportOf 0 kind sequence (len
 readReport (content.refused n) = reportOf n 0 0 0
 
 -- the frame writer: the frame's length, or the refusal alone
-abbrev pub writtenReport : writing.Written → ℕ
+abbrev pub writtenReport : Output → ℕ
 writtenReport (writing.written sent) = reportOf 0 0 0 (length sent)
 writtenReport (writing.refused n) = reportOf n 0 0 0
 
@@ -47,6 +48,6 @@ pub record ReportsRead (found : content.Read) (output : List ℕ) (report : ℕ)
   pub reports : report ≡ readReport found
   pub payload : exit ≡ putAt output 0 (readPayload found)
 
-pub record ReportsWritten (result : writing.Written) (output : List ℕ) (report : ℕ) (exit : List ℕ) : Type 0 where
+pub record ReportsWritten (result : Output) (output : List ℕ) (report : ℕ) (exit : List ℕ) : Type 0 where
   pub reports : report ≡ writtenReport result
   pub frame : exit ≡ putAt output 0 (writtenBytes result)

@@ -11,17 +11,18 @@ use borrow.Author.Tests.{eq-eqb, ne-eqb}
 use Rattle.refusals.specs.Numbers.{unknownType}
 use Rattle.slices.proofs.Impossible.{impossible}
 use Rattle.slices.specs.Each.{each}
+use Rattle.slices.specs.Written.{written, WritesAs}
+use Rattle.slices.specs.declared.Written as declared
 use Rattle.crc.specs.Crc.{linkStart, crcOf}
 use Rattle.frame.specs.Stuffing.{stuff}
 use Rattle.frame.specs.Content.{frame, refused, contentOf, judged}
-use Rattle.frame.specs.Writing.{written, writeFrame}
-use Rattle.frame.specs.Answers.{WritesAs}
-use Rattle.frame.specs.declared.writer.Written as declared
+use Rattle.frame.specs.Writing.{writeFrame}
 use Rattle.frame.proofs.StuffLaws.{length-stuff}
 use Rattle.frame.proofs.WriteLaws.{length-framed, content-room, payload-allowed}
 use Rattle.link.specs.declared.counts.Counts.{Counts}
 use Rattle.link.specs.declared.receiver.Last.{Last}
-use Rattle.link.specs.Closing.{dataType, acknowledgementType, replyRoom, acknowledgement, repeats, refusedFrame, acknowledgementFrame, againFrame, newFrame, dataFrame, frameOutcome, closedBy, ClosesAs, AcknowledgesAs}
+use Rattle.link.specs.declared.closing.Closed.{Closed}
+use Rattle.link.specs.Closing.{dataType, acknowledgementType, replyRoom, acknowledgement, repeats, Outcome, refusedFrame, acknowledgementFrame, againFrame, newFrame, dataFrame, frameOutcome, closedBy, ClosesAs, AcknowledgesAs}
 
 -- of an acknowledgement's four bytes of content the type is not escaped
 stuffed-acknowledgement : (q h l : ℕ) → length (stuff (acknowledgementType ∷ q ∷ h ∷ l ∷ [])) ≤ 7
@@ -54,7 +55,7 @@ module _ (q : ℕ) (reply : List ℕ) (answer : declared.Written) (exit : List �
       let is = acknowledgement-written (length reply) q h in
       let w′ = rw is at w in
       let same : declared.the-variants.Length n ≡ declared.the-variants.Length (length (acknowledgement q)) = sym told ∙ w′ .answers in
-      record { answers = cc; replied = w′ .output }
+      record { answers = cc; replied = w′ .put }
 
   pub not-refused : (n : ℕ) → answer ≡ declared.the-variants.Refused n → ⊥
   not-refused n told =
@@ -70,6 +71,11 @@ module _ (q : ℕ) (payload : List ℕ) (previous : Last) (before : Counts) wher
   pub data-new : repeats previous q ≡ false → dataFrame q payload previous before ≡ newFrame q payload before
   unfolding dataFrame
   data-new e = rw e
+
+-- a frame that is refused puts nothing
+pub refuses : (o : Outcome) (n : ℕ) (previous : Last) (before : Counts) (result : Closed) (reply packet : List ℕ)
+    → o ≡ refusedFrame n previous before → result ≡ closedBy (refusedFrame n previous before) → ClosesAs o reply packet result reply packet
+refuses o n previous before result reply packet e told = rw e (record { answers = told; replied = refl; handed-out = refl })
 
 -- an acknowledgement that came in puts nothing
 pub heard : (q size : ℕ) (previous : Last) (before : Counts) (reply packet : List ℕ)

@@ -8,4 +8,3 @@ pub mod SeenLaws
 pub mod RunLaws
 pub mod FrameLaws
 pub mod OursLaws
-pub mod RoomLaws

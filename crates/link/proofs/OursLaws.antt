@@ -1,27 +1,23 @@
--- A fresh start and each call give a link state whose content is whole and whose length is within it, since a byte is stored
--- only while there is room.
+-- At a fresh start and after each walk the content is whole and the reader's length within it, since a byte is stored only while there is
+-- room.
 use mathlib.Core.Path.{_≡_, refl, sym, _∙_}
 use mathlib.Core.Bool.{Bool, true, false}
 use mathlib.Core.List.{List, [], _∷_}
 use Prim.Native.Nat.{ℕ, suc, _≤_}
 use native.Mathlib.Omega.{arith}
-use lib.Dec.{eqb, ltb}
+use lib.Dec.{eqb}
 use lib.ListN.{length}
-use borrow.Author.Tests.{eqb-true, eqb-false, ltb-true, ltb-false}
+use borrow.Author.Tests.{eqb-true, eqb-false}
 use Rattle.slices.proofs.Impossible.{impossible}
 use Rattle.frame.specs.Stuffing.{contentMax, flagByte}
-use Rattle.frame.specs.Content.{payloadMax}
 use Rattle.link.specs.declared.reader.Reader.{Reader}
 use Rattle.link.specs.declared.reader.Ended.{Ended}
 use Rattle.link.specs.declared.reader.Ended.the-variants as ends
-use Rattle.link.specs.declared.receiver.Link.{Link}
 use Rattle.link.specs.Reader.{endedBy, stepOf}
 use Rattle.link.specs.Walk.{Turn, goes-on, stops, flagTurn, turnOf, goOn, walkOf}
-use Rattle.link.specs.Closing.{replyRoom}
-use Rattle.link.specs.Receiving.{freshLink, withUnreadPacket, walkCall, receiveOf}
+use Rattle.link.specs.Receiving.{freshLink}
 use Rattle.link.specs.Seen.{Ours}
-use Rattle.link.proofs.WalkLaws.{turn-flag, turn-byte, turn-length, walk-length}
-use Rattle.link.proofs.ReceivingLaws.{short-reply, short-packet, room-for-both}
+use Rattle.link.proofs.WalkLaws.{turn-flag, turn-byte, turn-length}
 use Rattle.link.proofs.SeenLaws.{step-grows}
 
 module _ (content : List ℕ) (reader : Reader) (whole : length content ≡ contentMax) (within : reader .length ≤ contentMax) where
@@ -57,23 +53,3 @@ walk-within (b ∷ bs) content reader n whole within =
 
 pub ours-fresh : Ours freshLink
 ours-fresh = record { whole = refl; within = omega arith }
-
-pub ours-unread : (state : Link) → Ours state → Ours (withUnreadPacket state)
-ours-unread state ours = record { whole = ours .whole; within = ours .within }
-
-pub ours-receive : (state : Link) (piece : List ℕ) (replySize packetSize : ℕ) → Ours state → Ours (receiveOf state piece replySize packetSize .link)
-unfolding walkCall
-ours-receive state piece replySize packetSize ours = by-reply (ltb replySize replyRoom) refl
-  where
-    by-packet : replyRoom ≤ replySize → (t : Bool) → ltb packetSize payloadMax ≡ t → Ours (receiveOf state piece replySize packetSize .link)
-    by-packet h true e = rw (short-packet state piece replySize packetSize h (ltb-true packetSize payloadMax e)) ours
-    by-packet h false e =
-        rw (room-for-both state piece replySize packetSize h (ltb-false packetSize payloadMax e))
-        (record {
-          whole = walk-length piece (state .content) (state .reader) 0 ∙ ours .whole;
-          within = walk-within piece (state .content) (state .reader) 0 (ours .whole) (ours .within);
-        })
-
-    by-reply : (t : Bool) → ltb replySize replyRoom ≡ t → Ours (receiveOf state piece replySize packetSize .link)
-    by-reply true e = rw (short-reply state piece replySize packetSize (ltb-true replySize replyRoom e)) ours
-    by-reply false e = by-packet (ltb-false replySize replyRoom e) (ltb packetSize payloadMax) refl

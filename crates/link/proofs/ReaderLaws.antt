@@ -3,9 +3,10 @@ use mathlib.Core.Path.{_≡_, refl}
 use mathlib.Core.List.{List, [], _∷_}
 use Prim.Native.Nat.{ℕ, suc, _≤_, _<_}
 use borrow.Author.Tests.{lt-ltb, le-ltb}
-use Rattle.frame.specs.Stuffing.{contentMax, plain, escaped, Meaning, meaning}
+use Rattle.frame.specs.Stuffing.{escapeByte, contentMax, plain, escaped, Meaning, escapes-next, faulty, meaning}
+use Rattle.frame.proofs.UnstuffLaws.{plain-escape, escaped-fault}
 use Rattle.link.specs.declared.reader.Phase.{Phase}
-use Rattle.link.specs.declared.reader.Phase.the-variants.{Plain, Escaped, LongContent}
+use Rattle.link.specs.declared.reader.Phase.the-variants.{Plain, Escaped, BadFraming, LongContent}
 use Rattle.link.specs.declared.reader.Reader.{Reader}
 use Rattle.link.specs.Reader.{Step, turned, storeOf, stepBy, stepIn, stepOf, StepsAs}
 
@@ -17,6 +18,11 @@ store-room held b h = rw (lt-ltb held contentMax h)
 pub store-full : (held b : ℕ) → contentMax ≤ held → storeOf held b ≡ turned LongContent held
 store-full held b h = rw (le-ltb held contentMax h)
 
+-- a byte that brings no content leaves the array as it was
+pub turns : (step : Step) (phase : Phase) (held : ℕ) (content : List ℕ) → step ≡ turned phase held
+    → StepsAs step held content (record { phase = phase; length = held }) content
+turns step phase held content e = rw e (record { answers = refl; array = refl })
+
 module _ (reader : Reader) (b : ℕ) where
   pub step-plain : (m : Meaning) → reader .phase ≡ Plain → meaning plain b ≡ m → stepOf reader b ≡ stepBy m (reader .length)
   unfolding stepOf
@@ -26,13 +32,17 @@ module _ (reader : Reader) (b : ℕ) where
   unfolding stepOf
   step-escaped m e is = rw (e, is)
 
-  -- before the first flag and behind a fault no byte changes anything
-  pub step-idle : (phase : Phase) → ((held : ℕ) → stepIn phase held b ≡ turned phase held) → reader .phase ≡ phase
-      → stepOf reader b ≡ turned (reader .phase) (reader .length)
-  unfolding stepOf
-  step-idle phase idle e = rw (e, idle (reader .length))
+  module _ (content : List ℕ) where
+    pub escapes : reader .phase ≡ Plain → b ≡ escapeByte
+        → StepsAs (stepOf reader b) (reader .length) content (record { phase = Escaped; length = reader .length }) content
+    escapes e is = turns _ Escaped (reader .length) content (step-plain escapes-next e (plain-escape b is))
 
--- a byte that brings no content leaves the array as it was
-pub turns : (step : Step) (phase : Phase) (held : ℕ) (content : List ℕ) → step ≡ turned phase held
-    → StepsAs step held content (record { phase = phase; length = held }) content
-turns step phase held content e = rw e (record { answers = refl; array = refl })
+    pub faults : reader .phase ≡ Escaped → (b ≡ 0x5e → ⊥) → (b ≡ 0x5d → ⊥)
+        → StepsAs (stepOf reader b) (reader .length) content (record { phase = BadFraming; length = reader .length }) content
+    faults e no-flag no-escape = turns _ BadFraming (reader .length) content (step-escaped faulty e (escaped-fault b no-flag no-escape))
+
+    -- before the first flag and behind a fault no byte changes anything
+    pub idles : (phase : Phase) → ((held : ℕ) → stepIn phase held b ≡ turned phase held) → reader .phase ≡ phase
+        → StepsAs (stepOf reader b) (reader .length) content reader content
+    unfolding stepOf
+    idles phase idle e = turns _ (reader .phase) (reader .length) content (rw (e, idle (reader .length)))

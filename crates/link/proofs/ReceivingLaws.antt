@@ -1,17 +1,17 @@
 -- A call, one law for each way through the code: the room in the two buffers settles whether it is refused, and otherwise the
 -- walk and the frame that it ended make it.
-use mathlib.Core.Path.{_≡_}
-use mathlib.Core.List.{List, []}
+use mathlib.Core.Path.{_≡_, refl}
+use mathlib.Core.List.{List}
 use Prim.Native.Nat.{ℕ, _≤_, _<_}
 use borrow.Author.Tests.{lt-ltb, le-ltb}
 use Rattle.frame.specs.Content.{payloadMax}
-use Rattle.link.specs.declared.reader.Walked.{Walked}
+use Rattle.link.specs.declared.walk.Walked.{Walked}
 use Rattle.link.specs.declared.receiver.Link.{Link}
-use Rattle.link.specs.declared.receiver.Closed.{Closed}
-use Rattle.link.specs.declared.receiver.Answer.the-variants as says
+use Rattle.link.specs.declared.receiver.Received.{Received}
+use Rattle.link.specs.declared.closing.Closed.{Closed}
 use Rattle.link.specs.Walk.{Walk, walkOf, WalksAs}
 use Rattle.link.specs.Closing.{replyRoom, closeOf, ClosesAs}
-use Rattle.link.specs.Receiving.{shortCall, walkCall, receiveOf, ReceivesAs}
+use Rattle.link.specs.Receiving.{Call, shortCall, walkCall, receiveOf, shortReceived, ReceivesAs}
 
 module _ (state : Link) (piece : List ℕ) (replySize packetSize : ℕ) where
   pub short-reply : replySize < replyRoom → receiveOf state piece replySize packetSize ≡ shortCall state
@@ -27,6 +27,11 @@ module _ (state : Link) (piece : List ℕ) (replySize packetSize : ℕ) where
   unfolding receiveOf
   room-for-both h k = rw (le-ltb replySize replyRoom h, le-ltb packetSize payloadMax k)
 
+-- a call with a short buffer puts nothing
+pub refuses-short : (call : Call) (state : Link) (result : Received) (reply packet : List ℕ) → call ≡ shortCall state → result ≡ shortReceived state
+    → ReceivesAs call reply packet result reply packet
+refuses-short call state result reply packet e told = rw e (record { answers = told; replied = refl; handed-out = refl })
+
 -- the walk and the frame that it ended make the call
 pub received : (state : Link) (walk : Walk) (walked : Walked) (content : List ℕ) (closed : Closed) (reply packet reply₁ packet₁ : List ℕ)
     → WalksAs walk walked content → ClosesAs (closeOf (walked .ended) content (state .last) (state .counts)) reply packet closed reply₁ packet₁
@@ -41,9 +46,3 @@ unfolding walkCall
 received state walk walked content closed reply packet reply₁ packet₁ u k =
     let k′ = rw (u .answers, u .array) at k in
     record { answers = rw (u .answers, u .array, k′ .answers); replied = k′ .replied; handed-out = k′ .handed-out }
-
--- an empty piece changes nothing
-pub empty-piece : (state : Link) (replySize packetSize : ℕ) → replyRoom ≤ replySize → payloadMax ≤ packetSize
-    → receiveOf state [] replySize packetSize ≡ record { link = state; taken = 0; answer = says.Nothing; reply = []; packet = [] }
-unfolding walkCall walkOf
-empty-piece state replySize packetSize h k = room-for-both state [] replySize packetSize h k

@@ -18,7 +18,7 @@ use Rattle.link.specs.declared.receiver.Last.{Last}
 use Rattle.link.specs.declared.receiver.Last.the-variants.{None, Sequence}
 use Rattle.link.specs.declared.receiver.Answer.{Answer}
 use Rattle.link.specs.declared.receiver.Answer.the-variants as says
-use Rattle.link.specs.declared.receiver.Closed.{Closed}
+use Rattle.link.specs.declared.closing.Closed.{Closed}
 use Rattle.link.specs.Counts.{countOf}
 
 abbrev pub dataType : ℕ

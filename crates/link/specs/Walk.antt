@@ -9,7 +9,7 @@ use Rattle.frame.specs.Stuffing.{flagByte}
 use Rattle.link.specs.declared.reader.Reader.{Reader}
 use Rattle.link.specs.declared.reader.Ended.{Ended}
 use Rattle.link.specs.declared.reader.Ended.the-variants as ended
-use Rattle.link.specs.declared.reader.Walked as declared
+use Rattle.link.specs.declared.walk.Walked as declared
 use Rattle.link.specs.Reader.{behindFlag, endedBy, stepOf, contentAfter}
 
 -- what one byte does: the walk goes on with content and reader, or stops at what the flag ended

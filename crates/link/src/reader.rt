@@ -4,12 +4,10 @@ use frame::CONTENT_MAX;
 use frame::ESCAPE;
 use frame::ESCAPED_ESCAPE;
 use frame::ESCAPED_FLAG;
-use frame::FLAG;
 use refusals::BAD_FRAMING;
 use refusals::LONG_CONTENT;
 ghost use mathlib.Core.Path.{_≡_};
 ghost use Rattle.link.specs.Reader.{behindFlag, endedBy, stepOf, storeOf, StepsAs};
-ghost use Rattle.link.specs.Walk.{WalksAs, walkOf};
 
 // Where a reader stands: before the first flag; behind a plain byte or a flag; behind an escape
 // byte; or in a frame in which refusal 1 or 2 was met.
@@ -35,48 +33,8 @@ pub enum Ended {
     Refused(u8),
 }
 
-// How far a piece was walked, and what the flag at which the walk stopped ended.
-pub struct Walked {
-    pub reader: Reader,
-    pub taken: usize,
-    pub ended: Ended,
-}
-
-// Walks the piece to the flag that ends a frame with any content byte or fault, or to its end.
-pub fn walk(piece: &[u8], content: &mut [u8; CONTENT_MAX], reader: Reader) -> Walked
-    ensures { λ r. ⌜ WalksAs (walkOf (now (piece .entry)) (now (content .entry)) reader 0) r (now (content .exit)) ⌝ }
-{
-    let mut next = reader;
-    let mut i: usize = 0;
-    while i < piece.len() {
-        let byte = piece[i];
-        i += 1;
-        if byte == FLAG {
-            let ended = ended_by_flag(next);
-            next = behind_flag();
-            match ended {
-                Ended::Nothing => {}
-                _ => {
-                    return Walked {
-                        reader: next,
-                        taken: i,
-                        ended,
-                    };
-                }
-            }
-        } else {
-            next = step(next, byte, content);
-        }
-    }
-    Walked {
-        reader: next,
-        taken: i,
-        ended: Ended::Nothing,
-    }
-}
-
 // The reader right behind a flag.
-fn behind_flag() -> Reader
+pub(crate) fn behind_flag() -> Reader
     ensures { λ r. ⌜ r ≡ behindFlag ⌝ }
 {
     Reader {
@@ -86,7 +44,7 @@ fn behind_flag() -> Reader
 }
 
 // What a flag ends. An escape byte right before it is refusal 1.
-fn ended_by_flag(reader: Reader) -> Ended
+pub(crate) fn ended_by_flag(reader: Reader) -> Ended
     ensures { λ r. ⌜ r ≡ endedBy reader ⌝ }
 {
     let phase = reader.phase;
@@ -106,7 +64,7 @@ fn ended_by_flag(reader: Reader) -> Ended
 
 // Takes one byte that is no flag. A pair's second byte is 20 hex less than the byte that the pair
 // stands for.
-fn step(reader: Reader, byte: u8, content: &mut [u8; CONTENT_MAX]) -> Reader
+pub(crate) fn step(reader: Reader, byte: u8, content: &mut [u8; CONTENT_MAX]) -> Reader
     ensures { λ r. ⌜ StepsAs (stepOf reader byte) (reader .length) (now (content .entry)) r (now (content .exit)) ⌝ }
 {
     let phase = reader.phase;

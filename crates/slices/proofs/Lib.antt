@@ -1,4 +1,5 @@
 pub mod EachLaws
+pub mod EachPut
 pub mod HighFirstLaws
 pub mod Impossible
 pub mod Lent

@@ -1,10 +1,11 @@
 -- `host::arznavik_frame_check` meets its contract: the reader's answer, packed into a report; a payload's length fits its part.
-use mathlib.Core.Path.{sym, _∙_}
+use mathlib.Core.Path.{sym, ap, _∙_}
 use native.Mathlib.Omega.{arith}
 use lib.ListN.{length}
+use Rattle.frame.specs.Content.{payloadMax}
 use Rattle.frame.specs.Reading.{readFrame}
 use Rattle.frame.proofs.FrameTheorems.{read-bounded}
-use Rattle.host.proofs.ReportLaws.{read-refused, read-frame, read-size}
+use Rattle.host.proofs.ReportLaws.{packedRead, read-reported, read-size}
 use borrow.Author.Needs.{needs}
 use Rattle.host.proofs.arznavik_frame_check.Statement.{statement}
 use Rattle.host.proofs.arznavik_frame_check.Tie as tie
@@ -23,12 +24,13 @@ enum-known-kind c = search needs
 
 report-requires-2 : tie.Need-report-requires-2
 report-requires-2 c κs =
-    let a = c .before .before .before .before .before .before .before .before .before .args in
-    let call = c .before .before .before .before .before .read-frame in
+    let told = c .before in
+    let called = told .before .before .before .before in
+    let a = called .before .before .before .before .args in
     let room = length (a .output .now) in
     let bytes = a .bytes .now in
-    let told = sym (c .before .kind .given .1) ∙ call .ensures .answers in
-    let small = read-size (readFrame room bytes) _ _ _ 383 (read-bounded room bytes) told in
+    let answers = sym (told .kind .given .1) ∙ called .read-frame .ensures .answers in
+    let small = read-size (readFrame room bytes) _ _ _ payloadMax (read-bounded room bytes) answers in
     omega (arith, small)
 
 same-length : tie.Need-same-length
@@ -36,22 +38,18 @@ same-length c = search needs
 
 returns : tie.Need-returns
 returns c =
-    let a = c .before .before .before .before .before .before .before .before .before .before .args in
-    let found = readFrame (length (a .output .now)) (a .bytes .now) in
-    let call = c .before .before .before .before .before .before .read-frame in
-    let told = sym (c .before .before .number .given .1) ∙ call .ensures .answers in
-    record { reports = c .report .ensures ∙ read-refused found _ told; payload = call .ensures .output }
+    let told = c .before .before in
+    let call = told .before .before .before .before .read-frame in
+    read-reported _ _ _ _ _ (call .ensures) (c .report .ensures ∙ ap packedRead (sym (told .number .given .1)))
 
 same-length-2 : tie.Need-same-length-2
 same-length-2 c = search needs
 
 returns-2 : tie.Need-returns-2
 returns-2 c =
-    let a = c .before .before .before .before .before .before .before .before .before .before .args in
-    let found = readFrame (length (a .output .now)) (a .bytes .now) in
-    let call = c .before .before .before .before .before .before .read-frame in
-    let told = sym (c .before .before .kind .given .1) ∙ call .ensures .answers in
-    record { reports = c .report2 .ensures ∙ read-frame found _ _ _ told; payload = call .ensures .output }
+    let told = c .before .before in
+    let call = told .before .before .before .before .read-frame in
+    read-reported _ _ _ _ _ (call .ensures) (c .report2 .ensures ∙ ap packedRead (sym (told .kind .given .1)))
 
 pub arznavik-frame-check-spec : {M : Type 1} → statement M
 arznavik-frame-check-spec =

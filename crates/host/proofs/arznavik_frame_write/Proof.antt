@@ -1,10 +1,12 @@
 -- `host::arznavik_frame_write` meets its contract: the writer's answer, packed into a report; a frame's length fits its part.
-use mathlib.Core.Path.{sym, _∙_}
+use mathlib.Core.Path.{sym, ap, _∙_}
+use Prim.Native.Nat.{_+_, _*_}
 use native.Mathlib.Omega.{arith}
 use lib.ListN.{length}
+use Rattle.frame.specs.Stuffing.{contentMax}
 use Rattle.frame.specs.Writing.{writeFrame}
 use Rattle.frame.proofs.FrameTheorems.{written-bounded}
-use Rattle.host.proofs.ReportLaws.{write-refused, write-length, write-size}
+use Rattle.host.proofs.ReportLaws.{packedWritten, written-reported, write-size}
 use borrow.Author.Needs.{needs}
 use Rattle.host.proofs.arznavik_frame_write.Statement.{statement}
 use Rattle.host.proofs.arznavik_frame_write.Tie as tie
@@ -23,13 +25,13 @@ enum-known-length c = search needs
 
 report-requires-2 : tie.Need-report-requires-2
 report-requires-2 c κs =
-    let a = c .before .before .before .before .before .before .before .before .before .args in
-    let call = c .before .before .before .before .before .write-frame in
+    let told = c .before in
+    let called = told .before .before .before .before in
+    let a = called .before .before .before .before .args in
     let room = length (a .output .now) in
-    let told = sym (c .before .length .given .1) ∙ call .ensures .answers in
-    let small =
-    write-size (writeFrame room (a .kind) (a .sequence) (a .payload .now)) _ 776
-    (written-bounded room (a .kind) (a .sequence) (a .payload .now)) told in
+    let answers = sym (told .length .given .1) ∙ called .write-frame .ensures .answers in
+    let bounded = written-bounded room (a .kind) (a .sequence) (a .payload .now) in
+    let small = write-size (writeFrame room (a .kind) (a .sequence) (a .payload .now)) _ (2 + 2 * contentMax) bounded answers in
     omega (arith, small)
 
 same-length : tie.Need-same-length
@@ -37,22 +39,18 @@ same-length c = search needs
 
 returns : tie.Need-returns
 returns c =
-    let a = c .before .before .before .before .before .before .before .before .before .before .args in
-    let result = writeFrame (length (a .output .now)) (a .kind) (a .sequence) (a .payload .now) in
-    let call = c .before .before .before .before .before .before .write-frame in
-    let told = sym (c .before .before .number .given .1) ∙ call .ensures .answers in
-    record { reports = c .report .ensures ∙ write-refused result _ told; frame = call .ensures .output }
+    let told = c .before .before in
+    let call = told .before .before .before .before .write-frame in
+    written-reported _ _ _ _ _ (call .ensures) (c .report .ensures ∙ ap packedWritten (sym (told .number .given .1)))
 
 same-length-2 : tie.Need-same-length-2
 same-length-2 c = search needs
 
 returns-2 : tie.Need-returns-2
 returns-2 c =
-    let a = c .before .before .before .before .before .before .before .before .before .before .args in
-    let result = writeFrame (length (a .output .now)) (a .kind) (a .sequence) (a .payload .now) in
-    let call = c .before .before .before .before .before .before .write-frame in
-    let told = sym (c .before .before .length .given .1) ∙ call .ensures .answers in
-    record { reports = c .report2 .ensures ∙ write-length result _ told; frame = call .ensures .output }
+    let told = c .before .before in
+    let call = told .before .before .before .before .write-frame in
+    written-reported _ _ _ _ _ (call .ensures) (c .report2 .ensures ∙ ap packedWritten (sym (told .length .given .1)))
 
 pub arznavik-frame-write-spec : {M : Type 1} → statement M
 arznavik-frame-write-spec =

@@ -21,11 +21,14 @@ spread-check-requires c κs = search needs
 
 returns : tie.Need-returns
 returns c =
-    let a = c .before .before .before .before .before .before .args in
-    let escape = c .before .before .before .before .header-escape .ensures in
-    let begun = c .before .before .check .ensures in
-    let done = c .before .check2 .ensures in
-    check-over (a .control) (a .length) (a .payload .now) _ _ _ _ escape begun done (c .spread-check .ensures)
+    let begun = c .before .before in
+    let escape = begun .before .before in
+    let a = escape .before .before .args in
+    check-over (a .control) (a .length) (a .payload .now) _ _ _ _
+    (escape .header-escape .ensures)
+    (begun .check .ensures)
+    (c .before .check2 .ensures)
+    (c .spread-check .ensures)
 
 pub check-bytes-spec : {M : Type 1} → statement M
 check-bytes-spec =

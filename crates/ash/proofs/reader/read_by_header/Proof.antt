@@ -19,10 +19,16 @@ shared-slice-read-length c = search needs
 good-header-requires : tie.Need-good-header-requires
 good-header-requires c κs = search needs
 
+abbrev start : tie.After-good-header → tie.Start
+start c =
+    let first = c .before .before .before in
+    first .before .before .before
+
 returns : tie.Need-returns
 returns c =
-    let a = c .before .before .before .before .before .before .before .args in
-    let no = sym (c .before .good-header .ensures) ∙ not-true _ (c .if1 .taken) in
+    let judged = c .before in
+    let a = start judged .args in
+    let no = sym (judged .good-header .ensures) ∙ not-true _ (c .if1 .taken) in
     refuses _ 21 (a .out .now) (header-bad (a .bytes .now) no)
 
 control-escaped-requires : tie.Need-control-escaped-requires
@@ -48,7 +54,7 @@ returns-2 c =
     let size = c .before .before .before .before in
     let control = size .before .before in
     let good = control .before .before in
-    let bytes = good .before .before .before .before .before .before .before .args .bytes .now in
+    let bytes = start (good .before) .args .bytes .now in
     let yes = sym (good .before .good-header .ensures) ∙ not-false _ (good .if1 .left) in
     let header = rw (← control .before .control-escaped .ensures, ← size .before .length-escaped .ensures) at (header-good bytes yes) in
     rw (header, ← control .unescape .ensures, ← size .unescape2 .ensures) (c .before .before .read-by-length .ensures)

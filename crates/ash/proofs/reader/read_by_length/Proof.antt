@@ -49,11 +49,12 @@ same-length c = search needs
 
 returns-3 : tie.Need-returns-3
 returns-3 c =
-    let right = c .before .before .before .before .before .before in
+    let read = c .before .before in
+    let right = read .before .before .before .before in
     let a = right .before .before .before .before .args in
     let sized = length-right (a .control) (a .length) (a .bytes .now) (right .before .if1 .left) (right .if2 .left) in
     let parts = rw (← payload-part (a .bytes .now) (a .length), ← part-rest (a .bytes .now) (a .length + 4)) at sized in
-    rw parts (c .before .before .read-payload .ensures)
+    rw parts (read .read-payload .ensures)
 
 pub read-by-length-spec : {M : Type 1} → statement M
 read-by-length-spec =

@@ -23,11 +23,12 @@ same-length c = search needs
 
 returns : tie.Need-returns
 returns c =
-    let reserved = c .before .before .before .before .before .before in
+    let put = c .before .before in
+    let flip = put .before .before .before in
+    let reserved = flip .before in
     let a = reserved .before .before .before .args in
     let is = byte-escaped (a .byte) (sym (reserved .before .is-reserved .ensures) ∙ reserved .if1 .taken) in
-    let put = rw (c .before .before .before .before .before .flip .ensures) at (c .before .before .put .ensures) in
-    stuffed-as (a .out .now) _ (a .at) (a .byte) (0x7d ∷ _ ∷ []) is put
+    stuffed-as (a .out .now) _ (a .at) (a .byte) (0x7d ∷ _ ∷ []) is (rw (flip .flip .ensures) at (put .put .ensures))
 
 slice-aggregate-put-2 : tie.Need-slice-aggregate-put-2
 slice-aggregate-put-2 c = search needs

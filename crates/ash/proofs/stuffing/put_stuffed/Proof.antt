@@ -1,31 +1,25 @@
 -- `ash::stuffing::put_stuffed` meets its contract. The invariant says what is still to do: the bytes left, stuffed and put from the
 -- present place on, give what the whole payload put at the start gives.
-use mathlib.Core.Path.{_≡_, refl, _∙_}
-use Prim.Native.Nat.{_+_, _-_, _≤_, _<_}
+use mathlib.Core.Path.{ap, _∙_}
+use Prim.Native.Nat.{_+_, _-_}
 use native.Mathlib.Nat.{zero-add}
 use native.Mathlib.Omega.{arith}
 use borrow.Author.Needs.{needs}
-use lib.ListN.{length, drop}
-use Rattle.slices.specs.Put.{putAt}
-use Rattle.slices.proofs.EachLaws.{each-from, each-none, size-from, size-none}
-use Rattle.slices.proofs.PutLaws.{put-append}
-use Rattle.ash.specs.Stuffing.{stuffByte, stuff}
+use lib.ListN.{length}
+use Rattle.slices.proofs.EachPut.{Putting, none-put, next-place, one-put, all-put}
+use Rattle.ash.specs.Stuffing.{stuffByte}
 use Rattle.ash.proofs.StuffLaws.{length-stuff}
 use Rattle.ash.proofs.stuffing.put_stuffed.Statement.{statement}
 use Rattle.ash.proofs.stuffing.put_stuffed.Tie as tie
 
 abbrev Inv-loop : tie.InvT-loop
-Inv-loop out₀ payload to₀ i₀ out to i =
-    (i ≤ length payload)
-    × (to + length (stuff (drop i payload)) ≡ length (stuff payload))
-    × (length out ≡ length out₀)
-    × (putAt out to (stuff (drop i payload)) ≡ putAt out₀ 0 (stuff payload))
+Inv-loop out₀ payload to₀ i₀ out to i = Putting stuffByte out₀ 0 payload out to i
 
 abbrev μ-loop : tie.MeasureT-loop
 μ-loop out₀ payload to₀ i₀ out to i = length payload - i
 
 loop-holds : tie.Need-loop-holds Inv-loop μ-loop
-loop-holds c = (omega arith, zero-add _, refl, refl)
+loop-holds c = none-put stuffByte _ _ _
 
 shared-slice-read-put-byte : tie.Need-shared-slice-read-put-byte Inv-loop μ-loop
 shared-slice-read-put-byte c = omega arith
@@ -35,10 +29,10 @@ put-byte-requires c κs = search needs
 
 add-to : tie.Need-add-to Inv-loop μ-loop
 add-to c =
-    let loop = c .before .before .before .before .before .before .loop in
-    let payload = c .before .before .before .before .before .before .before .before .before .args .payload .now in
-    let more : loop .i < length payload = omega arith in
-    omega (arith, size-from stuffByte payload (loop .i) more, length-stuff payload, c .before .before .put-byte .ensures .0, loop .inv .1)
+    let turn = c .before .before .before .before .before in
+    let loop = turn .before .loop in
+    let payload = turn .before .before .before .before .args .payload .now in
+    omega (arith, next-place stuffByte _ _ _ _ _ _ (loop .inv) (turn .loop-test .taken), length-stuff payload, c .before .before .put-byte .ensures .0)
 
 add-i : tie.Need-add-i Inv-loop μ-loop
 add-i c = omega arith
@@ -49,25 +43,17 @@ loop-less c = omega arith
 loop-again : tie.Need-loop-again Inv-loop μ-loop
 loop-again c =
     let put = c .before .before .put-byte in
-    let loop = c .before .before .before .before .before .before .loop in
-    let payload = c .before .before .before .before .before .before .before .before .before .args .payload .now in
-    let more : loop .i < length payload = omega arith in
-    let rest = each-from stuffByte payload (loop .i) more in (
-      omega arith,
-      omega (arith, size-from stuffByte payload (loop .i) more, put .ensures .0, loop .inv .1),
-      put .kept .0 ∙ loop .inv .2,
-      rw (put .ensures .0, put .ensures .1, put-append, ← rest) (loop .inv .3),
-    )
+    let turn = c .before .before .before .before .before in
+    let loop = turn .before .loop in
+    one-put stuffByte _ _ _ _ _ _ (loop .inv) (turn .loop-test .taken) _ _ (ap (λ n. loop .to + n) (put .ensures .0)) (put .kept .0) (put .ensures .1)
 
 same-length : tie.Need-same-length Inv-loop μ-loop
-same-length c = c .before .loop .inv .2
+same-length c = c .before .loop .inv .kept
 
 returns : tie.Need-returns Inv-loop μ-loop
 returns c =
-    let loop = c .before .loop in
-    let payload = c .before .before .before .before .args .payload .now in
-    let none = each-none stuffByte payload (loop .i) (c .loop-test .left) in
-    (omega (arith, size-none stuffByte payload (loop .i) (c .loop-test .left), loop .inv .1), rw none at (loop .inv .3))
+    let all = all-put stuffByte _ _ _ _ _ _ (c .before .loop .inv) (c .loop-test .left) in
+    (all .0 ∙ zero-add _, all .1)
 
 pub put-stuffed-spec : {M : Type 1} → statement M
 put-stuffed-spec =

@@ -20,6 +20,13 @@ Inv-loop sent payload₀ held₀ i₀ payload held i =
 abbrev μ-loop : tie.MeasureT-loop
 μ-loop sent payload₀ held₀ i₀ payload held i = length sent - i
 
+-- from the place behind the escape byte, if there is one, back to the loop and the start
+abbrev looped : tie.After-escape-size Inv-loop μ-loop → tie.At-loop Inv-loop μ-loop
+looped c = c .before .before .before
+
+abbrev start : tie.At-loop Inv-loop μ-loop → tie.Start Inv-loop μ-loop
+start c = c .before .before .before
+
 loop-holds : tie.Need-loop-holds Inv-loop μ-loop
 loop-holds c = (omega arith, omega arith, refl, nothing-held _ _)
 
@@ -31,20 +38,21 @@ escape-size-requires c κs = search needs
 
 add-at : tie.Need-add-at Inv-loop μ-loop
 add-at c =
-    let loop = c .before .before .before .loop in
-    let sent = c .before .before .before .before .before .before .args .sent .now in
+    let loop = looped c .loop in
+    let sent = start (looped c) .args .sent .now in
     omega (arith, c .escape-size .ensures, granted-most (eqb (getD sent (loop .i) 0) escapeByte) 1)
 
 same-length : tie.Need-same-length Inv-loop μ-loop
-same-length c = c .before .before .before .before .loop .inv .2
+same-length c = looped (c .before) .loop .inv .2
 
 returns : tie.Need-returns Inv-loop μ-loop
 returns c =
-    let loop = c .before .before .before .before .loop in
-    let a = c .before .before .before .before .before .before .before .args in
-    let place = ap (λ n. loop .i + n) (c .before .escape-size .ensures) in
+    let behind = c .before in
+    let loop = looped behind .loop in
+    let a = start (looped behind) .args in
+    let place = ap (λ n. loop .i + n) (behind .escape-size .ensures) in
     stopped (a .sent .now) (a .payload .now) (loop .payload) (loop .i) (loop .held) (loop .inv .3)
-    (unstuff-cut (a .sent .now) (loop .i) _ _ refl place (c .before .before .before .loop-test .taken) (c .if1 .taken))
+    (unstuff-cut (a .sent .now) (loop .i) _ _ refl place (behind .before .before .loop-test .taken) (c .if1 .taken))
 
 shared-slice-read-byte : tie.Need-shared-slice-read-byte Inv-loop μ-loop
 shared-slice-read-byte c = omega arith
@@ -53,16 +61,20 @@ rightly-escaped-requires : tie.Need-rightly-escaped-requires Inv-loop μ-loop
 rightly-escaped-requires c κs = search needs
 
 same-length-2 : tie.Need-same-length-2 Inv-loop μ-loop
-same-length-2 c = c .before .before .before .before .before .before .before .loop .inv .2
+same-length-2 c =
+    let behind = c .before .before .before .before in
+    looped behind .loop .inv .2
 
 returns-2 : tie.Need-returns-2 Inv-loop μ-loop
 returns-2 c =
-    let loop = c .before .before .before .before .before .before .before .loop in
-    let a = c .before .before .before .before .before .before .before .before .before .before .args in
-    let place = ap (λ n. loop .i + n) (c .before .before .before .before .escape-size .ensures) in
+    let more = c .before .before .before in
+    let behind = more .before in
+    let loop = looped behind .loop in
+    let a = start (looped behind) .args in
+    let place = ap (λ n. loop .i + n) (behind .escape-size .ensures) in
     let wrong = sym (c .before .rightly-escaped .ensures) ∙ not-true _ (c .if2 .taken) in
     stopped (a .sent .now) (a .payload .now) (loop .payload) (loop .i) (loop .held) (loop .inv .3)
-    (unstuff-fault (a .sent .now) (loop .i) _ _ refl place (c .before .before .before .if1 .left) wrong)
+    (unstuff-fault (a .sent .now) (loop .i) _ _ refl place (more .if1 .left) wrong)
 
 unescape-requires : tie.Need-unescape-requires Inv-loop μ-loop
 unescape-requires c κs = search needs
@@ -81,11 +93,14 @@ loop-less c = omega arith
 
 loop-again : tie.Need-loop-again Inv-loop μ-loop
 loop-again c =
-    let loop = c .before .before .before .before .before .before .before .before .loop in
-    let a = c .before .before .before .before .before .before .before .before .before .before .before .args in
-    let place = ap (λ n. loop .i + n) (c .before .before .before .before .before .escape-size .ensures) in
-    let right = sym (c .before .before .rightly-escaped .ensures) ∙ not-false _ (c .before .if2 .left) in
-    let next = unstuff-byte (a .sent .now) (loop .i) _ _ refl place (c .before .before .before .before .if1 .left) right in (
+    let judged = c .before .before in
+    let more = judged .before .before in
+    let behind = more .before in
+    let loop = looped behind .loop in
+    let a = start (looped behind) .args in
+    let place = ap (λ n. loop .i + n) (behind .escape-size .ensures) in
+    let right = sym (judged .rightly-escaped .ensures) ∙ not-false _ (c .before .if2 .left) in
+    let next = unstuff-byte (a .sent .now) (loop .i) _ _ refl place (more .if1 .left) right in (
       omega arith,
       omega arith,
       length-set (loop .payload) (loop .held) _ ∙ loop .inv .2,
@@ -98,7 +113,7 @@ same-length-3 c = c .before .loop .inv .2
 returns-3 : tie.Need-returns-3 Inv-loop μ-loop
 returns-3 c =
     let loop = c .before .loop in
-    let a = c .before .before .before .before .args in
+    let a = start (c .before) .args in
     all-held (a .sent .now) (a .payload .now) (loop .payload) (loop .i) (loop .held) (loop .inv .3) (unstuff-none (a .sent .now) (loop .i) (c .loop-test .left))
 
 pub unstuff-spec : {M : Type 1} → statement M

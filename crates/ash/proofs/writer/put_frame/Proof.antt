@@ -42,17 +42,22 @@ same-length c = search needs
 
 returns : tie.Need-returns
 returns c =
-    let checked = c .before .before .before .before .before .before .before .before .before .before .before .before .before .before in
-    let a = checked .before .before .before .before .before .before .before .args in
+    let third = c .before .before in
+    let second = third .before .before .before .before .before in
+    let first = second .before .before .before .before in
+    let checked = first .before .before .before in
+    let sized = checked .before in
+    let escape = sized .before .before in
+    let a = escape .before .before .before .before .args in
     put-together (a .out .now) (a .sent .now) (a .payload .now) (a .control) _ _ _ _
-    (checked .before .before .before .header-escape .ensures)
-    (checked .before .before .sent-byte .ensures)
-    (checked .before .sent-byte2 .ensures)
+    (escape .header-escape .ensures)
+    (sized .before .sent-byte .ensures)
+    (sized .sent-byte2 .ensures)
     (checked .check-bytes .ensures)
     _ _ _
-    (c .before .before .before .before .before .before .before .before .before .before .before .put .ensures)
-    (c .before .before .before .before .before .before .before .put2 .ensures)
-    (c .before .before .put3 .ensures)
+    (first .put .ensures)
+    (second .put2 .ensures)
+    (third .put3 .ensures)
 
 pub put-frame-spec : {M : Type 1} → statement M
 put-frame-spec =

@@ -33,9 +33,11 @@ sub-t9 c = search needs
 
 returns-3 : tie.Need-returns-3
 returns-3 c =
-    let content = c .before .before .before .before .before .before .args .content .now in
+    let good = c .before .before in
+    let check = good .before in
+    let content = check .before .before .before .args .content .now in
     let whole : 4 ≤ length content = omega arith in
-    rw (judged-good content whole (sym (c .before .before .before .check .ensures) ∙ c .before .before .if2 .left), length-payload content)
+    rw (judged-good content whole (sym (check .check .ensures) ∙ good .if2 .left), length-payload content)
 
 pub judge-spec : {M : Type 1} → statement M
 judge-spec =

@@ -48,21 +48,22 @@ put-requires c κs = search needs
 
 returns : tie.Need-returns
 returns c =
-    let judge = c .before .before .judge in
-    let found = judged (c .before .before .before .before .before .args .content .now) in
-    let is = answer-refused found (c .enum-told .given .0 .0) (sym (c .enum-told .given .1) ∙ judge .ensures) in
-    record { answers = judge .ensures; output = rw is }
+    let judge = c .before .before in
+    let found = judged (judge .before .before .before .args .content .now) in
+    let is = answer-refused found (c .enum-told .given .0 .0) (sym (c .enum-told .given .1) ∙ judge .judge .ensures) in
+    record { answers = judge .judge .ensures; output = rw is }
 
 same-length : tie.Need-same-length
 same-length c = search needs
 
 returns-2 : tie.Need-returns-2
 returns-2 c =
-    let known = c .before .before .before .before .before .before in
+    let put = c .before .before in
+    let known = put .before .before .before .before in
     let f = found known in
     record {
       answers = sym (known .read .given .1) ∙ known .before .before .judge .ensures;
-      output = rw (f .found, ← payload-part (content known) (known .read .given .0 .1 .1 .0) (f .whole) (f .size)) (c .before .before .put .ensures);
+      output = rw (f .found, ← payload-part (content known) (known .read .given .0 .1 .1 .0) (f .whole) (f .size)) (put .put .ensures);
     }
 
 pub hand-out-spec : {M : Type 1} → statement M

@@ -16,8 +16,9 @@ same-length c = search needs
 
 returns : tie.Need-returns
 returns c =
-    let start = c .before .before .before .before .before .before in
-    rw (stuff-flag (start .args .byte) (c .before .before .before .before .if1 .taken)) (c .before .before .put-pair .ensures)
+    let put = c .before .before in
+    let flag = put .before .before in
+    rw (stuff-flag (flag .before .before .args .byte) (flag .if1 .taken)) (put .put-pair .ensures)
 
 put-pair-requires-2 : tie.Need-put-pair-requires-2
 put-pair-requires-2 c κs =
@@ -29,8 +30,9 @@ same-length-2 c = search needs
 
 returns-2 : tie.Need-returns-2
 returns-2 c =
-    let start = c .before .before .before .before .before .before .before in
-    rw (stuff-escape (start .args .byte) (c .before .before .before .before .if2 .taken)) (c .before .before .put-pair2 .ensures)
+    let put = c .before .before in
+    let escape = put .before .before in
+    rw (stuff-escape (escape .before .before .before .args .byte) (escape .if2 .taken)) (put .put-pair2 .ensures)
 
 slice-write-out : tie.Need-slice-write-out
 slice-write-out c =

@@ -1,14 +1,13 @@
 -- `frame::writer::put_frame` meets its contract: the lengths of the stuffed parts add up to the frame's, and the parts put one
 -- behind the other are the frame.
 use mathlib.Core.Path.{_≡_, sym, _∙_}
-use mathlib.Core.List.{List, _++_}
-use Prim.Native.Nat.{ℕ, _+_, _*_, _≤_, _<_}
+use mathlib.Core.List.{_++_}
+use Prim.Native.Nat.{_<_}
 use native.Mathlib.Omega.{arith}
 use lib.ListN.{length, length-set}
-use Rattle.frame.specs.Stuffing.{stuff}
 use Rattle.frame.specs.Writing.{framed}
-use Rattle.frame.proofs.StuffLaws.{length-stuff}
-use Rattle.frame.proofs.WriteLaws.{framed-length, assembled, content-no-room, content-room, refuses, writes}
+use Rattle.slices.proofs.WrittenLaws.{refuses, writes}
+use Rattle.frame.proofs.WriteLaws.{Sizes, sizes-of, assembled, content-no-room, content-room}
 use borrow.Author.Needs.{needs}
 use Rattle.frame.proofs.writer.put_frame.Statement.{statement}
 use Rattle.frame.proofs.writer.put_frame.Tie as tie
@@ -22,27 +21,10 @@ stuffed-length-requires-2 c κs = search needs
 stuffed-length-requires-3 : tie.Need-stuffed-length-requires-3
 stuffed-length-requires-3 c κs = search needs
 
--- the three stuffed lengths, and that they are small
-record Sizes (head payload tail : List ℕ) (n m k : ℕ) : Type 0 where
-  of-head : n ≡ length (stuff head)
-  of-payload : m ≡ length (stuff payload)
-  of-tail : k ≡ length (stuff tail)
-  small : n + m + k ≤ 2 * 387
-  whole : length (framed (head ++ payload ++ tail)) ≡ 2 + n + m + k
-
-sizes-of : (head payload tail : List ℕ) (n m k : ℕ) → n ≡ length (stuff head) → m ≡ length (stuff payload) → k ≡ length (stuff tail)
-    → length head + length payload + length tail ≤ 387 → Sizes head payload tail n m k
-sizes-of head payload tail n m k e f g h =
-    record {
-      of-head = e;
-      of-payload = f;
-      of-tail = g;
-      small = omega (arith, length-stuff head, length-stuff payload, length-stuff tail);
-      whole = omega (arith, framed-length head payload tail);
-    }
-
 abbrev start : tie.After-stuffed-length3 → tie.Start
-start c = c .before .before .before .before .before .before .before
+start c =
+    let first = c .before .before in
+    first .before .before .before .before .before
 
 sizes : (c : tie.After-stuffed-length3)
     → Sizes (start c .args .head .now) (start c .args .payload .now) (start c .args .tail .now)
@@ -74,63 +56,75 @@ slice-write-out c = search needs
 
 put-stuffed-requires : tie.Need-put-stuffed-requires
 put-stuffed-requires c κs =
-    let at = c .before .before in
-    simp length-set (omega (arith, sizes at, c .before .if1 .left))
+    let room = c .before in
+    simp length-set (omega (arith, sizes (room .before), room .if1 .left))
+
+-- from the place behind each part back to the part before it, and to where there is room
+abbrev roomy : tie.After-put-stuffed → tie.Else1
+roomy c = c .before .before
+
+abbrev head-put : tie.After-put-stuffed2 → tie.After-put-stuffed
+head-put c = c .before .before .before .before
+
+abbrev payload-put : tie.After-put-stuffed3 → tie.After-put-stuffed2
+payload-put c = c .before .before .before .before
 
 put-stuffed-requires-2 : tie.Need-put-stuffed-requires-2
 put-stuffed-requires-2 c κs =
-    let at = c .before .before .before .before .before .before in
-    let out = start at .args .out .now in
-    let put = c .before .before .before .put-stuffed in
-    omega (arith, sizes at, c .before .before .before .before .before .if1 .left, put .ensures .0, put .kept .0, length-set out 0 0x7e)
+    let first = c .before .before .before in
+    let room = roomy first in
+    let put = first .put-stuffed in
+    let fill = length-set (start (room .before) .args .out .now) 0 0x7e in
+    omega (arith, sizes (room .before), room .if1 .left, put .ensures .0, put .kept .0, fill)
 
 put-stuffed-requires-3 : tie.Need-put-stuffed-requires-3
 put-stuffed-requires-3 c κs =
-    let at = c .before .before .before .before .before .before .before .before .before .before in
-    let out = start at .args .out .now in
-    let put = c .before .before .before .before .before .before .before .put-stuffed in
-    let put2 = c .before .before .before .put-stuffed2 in
-    omega (arith, sizes at, c .before .before .before .before .before .before .before .before .before .if1 .left, put .ensures .0, put .kept .0, put2 .ensures .0, put2 .kept .0, length-set out 0 0x7e)
+    let second = c .before .before .before in
+    let room = roomy (head-put second) in
+    let put = head-put second .put-stuffed in
+    let put2 = second .put-stuffed2 in
+    let fill = length-set (start (room .before) .args .out .now) 0 0x7e in
+    omega (arith, sizes (room .before), room .if1 .left, put .ensures .0, put .kept .0, put2 .ensures .0, put2 .kept .0, fill)
 
 -- where the last flag goes, and that the output has kept its length
-record Held (place n m : ℕ) : Type 0 where
-  below : place < n
-  kept : n ≡ m
-
-held : (c : tie.After-slice-known4) → Held (c .before .before .put-stuffed3 .result) (length (c .before .before .put-stuffed3 .last .0)) (length (start (c .before .before .before .before .before .before .before .before .before .before .before .before .before) .args .out .now))
+held : (c : tie.After-put-stuffed3)
+    → (c .put-stuffed3 .result < length (c .put-stuffed3 .last .0))
+    × (length (c .put-stuffed3 .last .0) ≡ length (start (roomy (head-put (payload-put c)) .before) .args .out .now))
 held c =
-    let at = c .before .before .before .before .before .before .before .before .before .before .before .before .before in
-    let out = start at .args .out .now in
-    let put = c .before .before .before .before .before .before .before .before .before .before .put-stuffed in
-    let put2 = c .before .before .before .before .before .before .put-stuffed2 in
-    let put3 = c .before .before .put-stuffed3 in
-    let fill = length-set out 0 0x7e in
-    record {
-      below = omega (arith, sizes at, c .before .before .before .before .before .before .before .before .before .before .before .before .if1 .left, put .ensures .0, put .kept .0, put2 .ensures .0, put2 .kept .0, put3 .ensures .0, put3 .kept .0, fill);
-      kept = put3 .kept .0 ∙ put2 .kept .0 ∙ put .kept .0 ∙ fill;
-    }
+    let first = head-put (payload-put c) in
+    let room = roomy first in
+    let put = first .put-stuffed in
+    let put2 = payload-put c .put-stuffed2 in
+    let put3 = c .put-stuffed3 in
+    let fill = length-set (start (room .before) .args .out .now) 0 0x7e in
+    let kept = put3 .kept .0 ∙ put2 .kept .0 ∙ put .kept .0 ∙ fill in
+    (omega (arith, sizes (room .before), room .if1 .left, put .ensures .0, put2 .ensures .0, put3 .ensures .0, kept), kept)
 
 slice-write-out-2 : tie.Need-slice-write-out-2
 slice-write-out-2 c =
-    let h = held c in
+    let h = held (c .before .before) .0 in
     omega (arith, h)
 
 same-length : tie.Need-same-length
-same-length c = simp length-set (held c .kept)
+same-length c = simp length-set (held (c .before .before) .1)
 
 returns-2 : tie.Need-returns-2
 returns-2 c =
-    let at = c .before .before .before .before .before .before .before .before .before .before .before .before .before in
-    let a = start at .args in
-    let put = c .before .before .before .before .before .before .before .before .before .before .put-stuffed in
-    let put2 = c .before .before .before .before .before .before .put-stuffed2 in
-    let put3 = c .before .before .put-stuffed3 in
-    let size : _ = sizes at in
-    let stores = rw (put2 .ensures .1, put .ensures .1) at (put3 .ensures .1) in
+    let third = c .before .before in
+    let second = payload-put third in
+    let first = head-put second in
+    let room = roomy first in
+    let a = start (room .before) .args in
+    let put = first .put-stuffed in
+    let put2 = second .put-stuffed2 in
+    let put3 = third .put-stuffed3 in
+    let size : _ = sizes (room .before) in
     writes _ (framed (a .head .now ++ a .payload .now ++ a .tail .now)) (a .out .now) _ _
-    (content-room (length (a .out .now)) (a .head .now ++ a .payload .now ++ a .tail .now) _ (size .whole) (c .before .before .before .before .before .before .before .before .before .before .before .before .if1 .left))
+    (content-room (length (a .out .now)) (a .head .now ++ a .payload .now ++ a .tail .now) _ (size .whole) (room .if1 .left))
     (sym (size .whole))
-    (rw stores (assembled (a .out .now) (a .head .now) (a .payload .now) (a .tail .now) _ _ _ (put .ensures .0) (put2 .ensures .0) (put3 .ensures .0)))
+    (assembled (a .out .now) (a .head .now) (a .payload .now) (a .tail .now) _ _ _ _ _ _
+    (put .ensures .0) (put2 .ensures .0) (put3 .ensures .0)
+    (put .ensures .1) (put2 .ensures .1) (put3 .ensures .1))
 
 pub put-frame-spec : {M : Type 1} → statement M
 put-frame-spec =

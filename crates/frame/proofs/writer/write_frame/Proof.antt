@@ -1,7 +1,8 @@
 -- `frame::writer::write_frame` meets its contract: the check goes on over the payload from that of type and sequence, and what
 -- `put_frame` writes are the parts of the content.
 use lib.ListN.{length}
-use Rattle.frame.proofs.WriteLaws.{content-parts, payload-too-long, payload-allowed, refuses}
+use Rattle.slices.proofs.WrittenLaws.{refuses}
+use Rattle.frame.proofs.WriteLaws.{content-parts, payload-too-long, payload-allowed}
 use borrow.Author.Needs.{needs}
 use Rattle.frame.proofs.writer.write_frame.Statement.{statement}
 use Rattle.frame.proofs.writer.write_frame.Tie as tie
@@ -40,11 +41,13 @@ same-length c = search needs
 
 returns-2 : tie.Need-returns-2
 returns-2 c =
-    let a = c .before .before .before .before .before .before .before .before .before .before .before .before .args in
-    let first = c .before .before .before .before .before .before .before .check in
-    let second = c .before .before .before .before .before .before .check2 in
-    rw (payload-allowed (length (a .out .now)) (a .kind) (a .sequence) (a .payload .now) (c .before .before .before .before .before .before .before .before .before .if1 .left), content-parts (a .kind) (a .sequence) (a .payload .now))
-    (rw (second .ensures, first .ensures) at (c .before .before .put-frame .ensures))
+    let put = c .before .before in
+    let second = put .before .before .before .before in
+    let first = second .before in
+    let allowed = first .before .before in
+    let a = allowed .before .before .before .args in
+    rw (payload-allowed (length (a .out .now)) (a .kind) (a .sequence) (a .payload .now) (allowed .if1 .left), content-parts (a .kind) (a .sequence) (a .payload .now))
+    (rw (second .check2 .ensures, first .check .ensures) at (put .put-frame .ensures))
 
 pub write-frame-spec : {M : Type 1} → statement M
 write-frame-spec =

@@ -1,12 +1,12 @@
 -- `link::reader::step` meets its contract: each way through it has its law.
 use borrow.Author.Needs.{needs}
-use mathlib.Core.Path.{_≡_, refl}
+use mathlib.Core.Path.{refl}
 use Prim.Native.Nat.{_+_, _≤_}
 use native.Mathlib.Omega.{arith}
-use Rattle.frame.specs.Stuffing.{escapes-next, stands-for, faulty}
-use Rattle.frame.proofs.UnstuffLaws.{plain-escape, plain-byte, escaped-byte, escaped-fault}
-use Rattle.link.specs.declared.reader.Phase.the-variants.{Before, Escaped, BadFraming, LongContent}
-use Rattle.link.proofs.ReaderLaws.{step-plain, step-escaped, step-idle, turns}
+use Rattle.frame.specs.Stuffing.{stands-for}
+use Rattle.frame.proofs.UnstuffLaws.{plain-byte, escaped-byte}
+use Rattle.link.specs.declared.reader.Phase.the-variants.{Before, BadFraming, LongContent}
+use Rattle.link.proofs.ReaderLaws.{step-plain, step-escaped, escapes, faults, idles}
 use Rattle.link.proofs.reader.step.Statement.{statement}
 use Rattle.link.proofs.reader.step.Tie as tie
 
@@ -15,9 +15,9 @@ enum-told c = search needs
 
 returns : tie.Need-returns
 returns c =
-    let a = c .before .before .before .args in
-    turns _ Escaped (a .reader .length) (a .content .now)
-    (step-plain (a .reader) (a .byte) escapes-next (c .before .enum-told .given .1) (plain-escape (a .byte) (c .if1 .taken)))
+    let told = c .before in
+    let a = told .before .before .args in
+    escapes (a .reader) (a .byte) (a .content .now) (told .enum-told .given .1) (c .if1 .taken)
 
 store-requires : tie.Need-store-requires
 store-requires c κs = search needs
@@ -42,50 +42,47 @@ enum-told-5 c = search needs
 
 returns-2 : tie.Need-returns-2
 returns-2 c =
-    let a = c .before .before .before .before .before .args in
-    let told = c .before .before .before .enum-told .given .1 in
-    rw (step-plain (a .reader) (a .byte) (stands-for (a .byte)) told (plain-byte (a .byte) (c .before .before .if1 .left)))
+    let other = c .before .before in
+    let told = other .before in
+    let a = told .before .before .args in
+    rw (step-plain (a .reader) (a .byte) (stands-for (a .byte)) (told .enum-told .given .1) (plain-byte (a .byte) (other .if1 .left)))
     (c .store .ensures)
 
 returns-3 : tie.Need-returns-3
 returns-3 c =
-    let a = c .before .before .before .before .before .before .args in
-    let told = c .before .before .before .before .enum-told2 .given .1 in
+    let told = c .before .before .before .before in
+    let a = told .before .before .args in
     let low : 0x5d ≤ a .byte = omega arith in
     let high : a .byte ≤ 0x5e = omega arith in
-    rw (step-escaped (a .reader) (a .byte) (stands-for (a .byte + 0x20)) told (escaped-byte (a .byte) low high))
+    rw (step-escaped (a .reader) (a .byte) (stands-for (a .byte + 0x20)) (told .enum-told2 .given .1) (escaped-byte (a .byte) low high))
     (c .store2 .ensures)
 
 returns-4 : tie.Need-returns-4
 returns-4 c =
-    let a = c .before .before .before .args in
-    let no-flag : a .byte ≡ 0x5e → ⊥ = λ e. omega arith in
-    let no-escape : a .byte ≡ 0x5d → ⊥ = λ e. omega arith in
-    turns _ BadFraming (a .reader .length) (a .content .now)
-    (step-escaped (a .reader) (a .byte) faulty (c .before .enum-told2 .given .1) (escaped-fault (a .byte) no-flag no-escape))
+    let told = c .before in
+    let a = told .before .before .args in
+    faults (a .reader) (a .byte) (a .content .now) (told .enum-told2 .given .1) (λ e. omega arith) (λ e. omega arith)
 
 returns-5 : tie.Need-returns-5
 returns-5 c =
-    let a = c .before .before .before .before .args in
-    let no-flag : a .byte ≡ 0x5e → ⊥ = λ e. omega arith in
-    let no-escape : a .byte ≡ 0x5d → ⊥ = λ e. omega arith in
-    turns _ BadFraming (a .reader .length) (a .content .now)
-    (step-escaped (a .reader) (a .byte) faulty (c .before .before .enum-told2 .given .1) (escaped-fault (a .byte) no-flag no-escape))
+    let told = c .before .before in
+    let a = told .before .before .args in
+    faults (a .reader) (a .byte) (a .content .now) (told .enum-told2 .given .1) (λ e. omega arith) (λ e. omega arith)
 
 returns-6 : tie.Need-returns-6
 returns-6 c =
     let a = c .before .before .args in
-    turns _ (a .reader .phase) (a .reader .length) (a .content .now) (step-idle (a .reader) (a .byte) Before (λ held. refl) (c .enum-told3 .given .1))
+    idles (a .reader) (a .byte) (a .content .now) Before (λ held. refl) (c .enum-told3 .given .1)
 
 returns-7 : tie.Need-returns-7
 returns-7 c =
     let a = c .before .before .args in
-    turns _ (a .reader .phase) (a .reader .length) (a .content .now) (step-idle (a .reader) (a .byte) BadFraming (λ held. refl) (c .enum-told4 .given .1))
+    idles (a .reader) (a .byte) (a .content .now) BadFraming (λ held. refl) (c .enum-told4 .given .1)
 
 returns-8 : tie.Need-returns-8
 returns-8 c =
     let a = c .before .before .args in
-    turns _ (a .reader .phase) (a .reader .length) (a .content .now) (step-idle (a .reader) (a .byte) LongContent (λ held. refl) (c .enum-told5 .given .1))
+    idles (a .reader) (a .byte) (a .content .now) LongContent (λ held. refl) (c .enum-told5 .given .1)
 
 pub step-spec : {M : Type 1} → statement M
 step-spec =

@@ -1,4 +1,4 @@
--- `link::reader::walk` meets its contract. The invariant says what is still to do: the walk over the rest of the piece, from
+-- `link::walk::walk` meets its contract. The invariant says what is still to do: the walk over the rest of the piece, from
 -- the present content and reader on, comes to where the walk over the whole piece comes.
 use mathlib.Core.Path.{_≡_, refl, sym, ap, _∙_}
 use mathlib.Core.Logic.{⊎-elim}
@@ -14,8 +14,8 @@ use Rattle.link.specs.declared.reader.Ended.the-variants as ends
 use Rattle.link.specs.Reader.{endedBy}
 use Rattle.link.specs.Walk.{stops, flagTurn, walkOf}
 use Rattle.link.proofs.WalkLaws.{turn-flag, turn-byte, walk-on, walk-stop, walk-end}
-use Rattle.link.proofs.reader.walk.Statement.{statement}
-use Rattle.link.proofs.reader.walk.Tie as tie
+use Rattle.link.proofs.walk.walk.Statement.{statement}
+use Rattle.link.proofs.walk.walk.Tie as tie
 use borrow.Author.Needs.{needs}
 
 abbrev Inv-loop : tie.InvT-loop

@@ -1,8 +1,8 @@
--- `link::receiver::acknowledge` meets its contract: nine bytes are room for any acknowledgement, so the writer refuses none.
+-- `link::data::acknowledge` meets its contract: nine bytes are room for any acknowledgement, so the writer refuses none.
 use borrow.Author.Needs.{needs}
 use Rattle.link.proofs.ClosingLaws.{acknowledged, not-refused}
-use Rattle.link.proofs.receiver.acknowledge.Statement.{statement}
-use Rattle.link.proofs.receiver.acknowledge.Tie as tie
+use Rattle.link.proofs.data.acknowledge.Statement.{statement}
+use Rattle.link.proofs.data.acknowledge.Tie as tie
 
 slice-aggregate-write-frame : tie.Need-slice-aggregate-write-frame
 slice-aggregate-write-frame c = search needs
@@ -21,16 +21,19 @@ same-length c = search needs
 
 returns : tie.Need-returns
 returns c =
-    let start = c .before .before .before .before .before .before .before .before .before in
-    acknowledged (start .args .sequence) (start .args .reply .now) _ _ (start .pre) (c .before .before .before .before .before .write-frame .ensures) (c .before .length .given .0 .0) (c .before .length .given .1)
+    let told = c .before in
+    let written = told .before .before .before .before in
+    let start = written .before .before .before .before in
+    acknowledged (start .args .sequence) (start .args .reply .now) _ _ (start .pre) (written .write-frame .ensures) _ (told .length .given .1)
 
 same-length-2 : tie.Need-same-length-2
 same-length-2 c = search needs
 
 returns-2 : tie.Need-returns-2
 returns-2 c =
-    let start = c .before .before .before .before .before .before .before .before in
-    absurd (not-refused (start .args .sequence) (start .args .reply .now) _ _ (start .pre) (c .before .before .before .before .write-frame .ensures) _ (c .enum-told .given .1))
+    let written = c .before .before .before .before in
+    let start = written .before .before .before .before in
+    absurd (not-refused (start .args .sequence) (start .args .reply .now) _ _ (start .pre) (written .write-frame .ensures) _ (c .enum-told .given .1))
 
 pub acknowledge-spec : {M : Type 1} → statement M
 acknowledge-spec =

@@ -1,7 +1,7 @@
--- `link::receiver::refuse` meets its contract: `count` answers for the counts.
+-- `link::closing::refuse` meets its contract: `count` answers for the counts.
 use borrow.Author.Needs.{needs}
-use Rattle.link.proofs.receiver.refuse.Statement.{statement}
-use Rattle.link.proofs.receiver.refuse.Tie as tie
+use Rattle.link.proofs.closing.refuse.Statement.{statement}
+use Rattle.link.proofs.closing.refuse.Tie as tie
 
 count-requires : tie.Need-count-requires
 count-requires c κs = search needs

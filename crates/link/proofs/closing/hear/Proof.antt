@@ -1,8 +1,8 @@
--- `link::receiver::hear` meets its contract: the test is the definition's.
+-- `link::closing::hear` meets its contract: the test is the definition's.
 use borrow.Author.Needs.{needs}
 use borrow.Author.Tests.{eq-eqb, ne-eqb}
-use Rattle.link.proofs.receiver.hear.Statement.{statement}
-use Rattle.link.proofs.receiver.hear.Tie as tie
+use Rattle.link.proofs.closing.hear.Statement.{statement}
+use Rattle.link.proofs.closing.hear.Tie as tie
 
 refuse-requires : tie.Need-refuse-requires
 refuse-requires c κs = search needs

@@ -1,22 +1,21 @@
--- `frame::reader::read_plain` and `read_escaped` meet their contracts. The measure is the bytes left. Each answer is the law of
+-- `frame::unstuffing::read_plain` and `read_escaped` meet their contracts. The measure is the bytes left. Each answer is the law of
 -- unstuffing for what the byte means, on what the call for the rest gave.
-use mathlib.Core.Path.{_≡_}
-use Prim.Native.Nat.{_+_, _-_, _≤_}
+use Prim.Native.Nat.{ℕ, _-_, _<_}
 use native.Mathlib.Omega.{arith}
 use lib.ListN.{getD}
-use Rattle.frame.specs.Stuffing.{plain, escaped, contentMax}
-use Rattle.frame.proofs.UnstuffLaws.{plain-escape, plain-byte, escaped-byte, escaped-fault, unstuff-end, unstuff-escape, unstuff-fault, unstuff-byte, unstuff-full, stored, stopped, ended}
-use Prim.Native.Nat.{ℕ, _<_}
+use Rattle.frame.specs.Stuffing.{plain, escaped}
+use Rattle.frame.proofs.UnstuffLaws.{plain-escape, plain-byte, escaped-byte, escaped-fault}
+use Rattle.frame.proofs.ReadersLaws.{ends-plain, ends-escaped, reads-escape, reads-fault, reads-byte, reads-full}
 use borrow.Fn.Kinds.{In}
 use borrow.Fn.PlainCycle.{Measures, is, falls, and}
-use Rattle.frame.proofs.reader.read_escaped.Reads as read-escaped
-use Rattle.frame.proofs.reader.read_escaped.Kinds as read-escaped-kinds
-use Rattle.frame.proofs.reader.+read_escaped+read_plain.Lts-read_escaped as read-escaped-lts
-use Rattle.frame.proofs.reader.read_plain.Reads as read-plain
-use Rattle.frame.proofs.reader.read_plain.Kinds as read-plain-kinds
-use Rattle.frame.proofs.reader.+read_escaped+read_plain.Lts-read_plain as read-plain-lts
-use Rattle.frame.proofs.reader.+read_escaped+read_plain.{statement}
-use Rattle.frame.proofs.reader.+read_escaped+read_plain.Tie.{close}
+use Rattle.frame.proofs.unstuffing.read_escaped.Reads as read-escaped
+use Rattle.frame.proofs.unstuffing.read_escaped.Kinds as read-escaped-kinds
+use Rattle.frame.proofs.unstuffing.+read_escaped+read_plain.Lts-read_escaped as read-escaped-lts
+use Rattle.frame.proofs.unstuffing.read_plain.Reads as read-plain
+use Rattle.frame.proofs.unstuffing.read_plain.Kinds as read-plain-kinds
+use Rattle.frame.proofs.unstuffing.+read_escaped+read_plain.Lts-read_plain as read-plain-lts
+use Rattle.frame.proofs.unstuffing.+read_escaped+read_plain.{statement}
+use Rattle.frame.proofs.unstuffing.+read_escaped+read_plain.Tie.{close}
 
 abbrev μ-read-escaped : Measures 2 read-escaped-kinds.ps ℕ
 μ-read-escaped κs a = a .1 .0 - a .1 .1 .0
@@ -53,9 +52,8 @@ read-plain-claims t = (read-escaped-below t, read-escaped.Post, read-plain-below
 
 read-escaped-returns : (t : ℕ) → read-escaped-lts.Need-returns (read-escaped-claims t) (read-escaped-at t) read-escaped.Post
 read-escaped-returns t c =
-    let start = c .before in
-    let a = start .args in
-    rw (unstuff-end escaped (a .held) (a .sent .now) (a .count) (a .at) (c .if1 .taken)) (stopped 1 (a .held) (a .content .now) (a .content .now))
+    let a = c .before .args in
+    ends-escaped (a .sent .now) (a .count) (a .at) (a .held) (a .content .now) (c .if1 .taken)
 
 read-escaped-element-copy-out-byte : (t : ℕ) → read-escaped-lts.Need-element-copy-out-byte (read-escaped-claims t) (read-escaped-at t) read-escaped.Post
 read-escaped-element-copy-out-byte t c = omega arith
@@ -74,62 +72,44 @@ read-escaped-add-read-plain t c = omega arith
 
 read-escaped-read-plain-requires : (t : ℕ) → read-escaped-lts.Need-read-plain-requires (read-escaped-claims t) (read-escaped-at t) read-escaped.Post
 read-escaped-read-plain-requires t c κs =
-    let start = c .before .before .before .before .before .before in
+    let left = c .before .before .before .before .before in
+    let start = left .before in
     (omega (arith, start .pre .0), start .pre .1)
 
 read-escaped-returns-2 : (t : ℕ) → read-escaped-lts.Need-returns-2 (read-escaped-claims t) (read-escaped-at t) read-escaped.Post
 read-escaped-returns-2 t c =
-    let start = c .before .before .before .before .before .before .before in
-    let a = start .args in
-    let fits = start .pre .1 .1 in
-    let more : a .at < a .count = omega arith in
+    let stored = c .before .before .before in
+    let left = stored .before .before .before in
+    let a = left .before .args in
     let b = getD (a .sent .now) (a .at) 0 in
-    let low : 0x5d ≤ b = omega arith in
-    let high : b ≤ 0x5e = omega arith in
-    let room : a .held < contentMax = omega arith in
-    rw (unstuff-byte escaped (a .held) (a .sent .now) (a .count) (a .at) fits more (b + 0x20) (escaped-byte b low high) room)
-    (stored _ (b + 0x20) (a .held) (a .content .now) _ _ (c .read-plain .ensures))
+    reads-byte (a .sent .now) (a .count) (a .at) (a .held) (a .content .now) escaped (left .before .pre .1 .1) (left .if1 .left) _ (escaped-byte b (omega arith) (omega arith)) (omega arith) _ _
+    (c .read-plain .ensures)
 
 read-escaped-returns-3 : (t : ℕ) → read-escaped-lts.Need-returns-3 (read-escaped-claims t) (read-escaped-at t) read-escaped.Post
 read-escaped-returns-3 t c =
-    let start = c .before .before .before .before .before in
-    let a = start .args in
-    let fits = start .pre .1 .1 in
-    let more : a .at < a .count = omega arith in
+    let left = c .before .before .before .before in
+    let a = left .before .args in
     let b = getD (a .sent .now) (a .at) 0 in
-    let low : 0x5d ≤ b = omega arith in
-    let high : b ≤ 0x5e = omega arith in
-    rw (unstuff-full escaped (a .held) (a .sent .now) (a .count) (a .at) fits more (b + 0x20) (escaped-byte b low high) (c .if4 .left))
-    (stopped 2 (a .held) (a .content .now) (a .content .now))
+    reads-full (a .sent .now) (a .count) (a .at) (a .held) (a .content .now) escaped (left .before .pre .1 .1) (left .if1 .left) _ (escaped-byte b (omega arith) (omega arith)) (c .if4 .left)
 
 read-escaped-returns-4 : (t : ℕ) → read-escaped-lts.Need-returns-4 (read-escaped-claims t) (read-escaped-at t) read-escaped.Post
 read-escaped-returns-4 t c =
-    let start = c .before .before .before in
-    let a = start .args in
-    let fits = start .pre .1 .1 in
-    let more : a .at < a .count = omega arith in
+    let left = c .before .before in
+    let a = left .before .args in
     let b = getD (a .sent .now) (a .at) 0 in
-    let no-flag : b ≡ 0x5e → ⊥ = λ e. omega arith in
-    let no-escape : b ≡ 0x5d → ⊥ = λ e. omega arith in
-    rw (unstuff-fault escaped (a .held) (a .sent .now) (a .count) (a .at) fits more (escaped-fault b no-flag no-escape))
-    (stopped 1 (a .held) (a .content .now) (a .content .now))
+    reads-fault (a .sent .now) (a .count) (a .at) (a .held) (a .content .now) escaped (left .before .pre .1 .1) (left .if1 .left) (escaped-fault b (λ e. omega arith) (λ e. omega arith))
 
 read-escaped-returns-5 : (t : ℕ) → read-escaped-lts.Need-returns-5 (read-escaped-claims t) (read-escaped-at t) read-escaped.Post
 read-escaped-returns-5 t c =
-    let start = c .before .before .before .before in
-    let a = start .args in
-    let fits = start .pre .1 .1 in
-    let more : a .at < a .count = omega arith in
+    let left = c .before .before .before in
+    let a = left .before .args in
     let b = getD (a .sent .now) (a .at) 0 in
-    let no-flag : b ≡ 0x5e → ⊥ = λ e. omega arith in
-    let no-escape : b ≡ 0x5d → ⊥ = λ e. omega arith in
-    rw (unstuff-fault escaped (a .held) (a .sent .now) (a .count) (a .at) fits more (escaped-fault b no-flag no-escape))
-    (stopped 1 (a .held) (a .content .now) (a .content .now))
+    reads-fault (a .sent .now) (a .count) (a .at) (a .held) (a .content .now) escaped (left .before .pre .1 .1) (left .if1 .left) (escaped-fault b (λ e. omega arith) (λ e. omega arith))
 
 read-plain-returns : (t : ℕ) → read-plain-lts.Need-returns (read-plain-claims t) (read-plain-at t) read-plain.Post
 read-plain-returns t c =
     let a = c .before .args in
-    rw (unstuff-end plain (a .held) (a .sent .now) (a .count) (a .at) (c .if1 .taken)) (ended (a .held) (a .content .now))
+    ends-plain (a .sent .now) (a .count) (a .at) (a .held) (a .content .now) (c .if1 .taken)
 
 read-plain-element-copy-out-byte : (t : ℕ) → read-plain-lts.Need-element-copy-out-byte (read-plain-claims t) (read-plain-at t) read-plain.Post
 read-plain-element-copy-out-byte t c = omega arith
@@ -144,13 +124,10 @@ read-plain-read-escaped-requires t c κs =
 
 read-plain-returns-2 : (t : ℕ) → read-plain-lts.Need-returns-2 (read-plain-claims t) (read-plain-at t) read-plain.Post
 read-plain-returns-2 t c =
-    let start = c .before .before .before .before .before in
-    let a = start .args in
-    let fits = start .pre .1 .1 in
-    let more : a .at < a .count = omega arith in
-    let b = getD (a .sent .now) (a .at) 0 in
-    let escape : b ≡ 0x7d = c .before .before .if2 .taken in
-    rw (unstuff-escape plain (a .held) (a .sent .now) (a .count) (a .at) fits more (plain-escape b escape)) (c .read-escaped .ensures)
+    let escape = c .before .before in
+    let left = escape .before .before in
+    let a = left .before .args in
+    reads-escape (a .sent .now) (a .count) (a .at) (a .held) (a .content .now) plain (left .before .pre .1 .1) (left .if1 .left) (plain-escape _ (escape .if2 .taken)) _ _ (c .read-escaped .ensures)
 
 read-plain-element-write-content : (t : ℕ) → read-plain-lts.Need-element-write-content (read-plain-claims t) (read-plain-at t) read-plain.Post
 read-plain-element-write-content t c = omega arith
@@ -165,26 +142,17 @@ read-plain-read-plain-requires t c κs =
 
 read-plain-returns-3 : (t : ℕ) → read-plain-lts.Need-returns-3 (read-plain-claims t) (read-plain-at t) read-plain.Post
 read-plain-returns-3 t c =
-    let start = c .before .before .before .before .before .before in
-    let a = start .args in
-    let fits = start .pre .1 .1 in
-    let more : a .at < a .count = omega arith in
-    let b = getD (a .sent .now) (a .at) 0 in
-    let other : b ≡ 0x7d → ⊥ = c .before .before .before .if2 .left in
-    let room : a .held < contentMax = omega arith in
-    rw (unstuff-byte plain (a .held) (a .sent .now) (a .count) (a .at) fits more b (plain-byte b other) room)
-    (stored _ b (a .held) (a .content .now) _ _ (c .read-plain .ensures))
+    let other = c .before .before .before in
+    let left = other .before .before in
+    let a = left .before .args in
+    reads-byte (a .sent .now) (a .count) (a .at) (a .held) (a .content .now) plain (left .before .pre .1 .1) (left .if1 .left) _ (plain-byte _ (other .if2 .left)) (omega arith) _ _
+    (c .read-plain .ensures)
 
 read-plain-returns-4 : (t : ℕ) → read-plain-lts.Need-returns-4 (read-plain-claims t) (read-plain-at t) read-plain.Post
 read-plain-returns-4 t c =
-    let start = c .before .before .before .before in
-    let a = start .args in
-    let fits = start .pre .1 .1 in
-    let more : a .at < a .count = omega arith in
-    let b = getD (a .sent .now) (a .at) 0 in
-    let other : b ≡ 0x7d → ⊥ = c .before .if2 .left in
-    rw (unstuff-full plain (a .held) (a .sent .now) (a .count) (a .at) fits more b (plain-byte b other) (c .if3 .left))
-    (stopped 2 (a .held) (a .content .now) (a .content .now))
+    let left = c .before .before .before in
+    let a = left .before .args in
+    reads-full (a .sent .now) (a .count) (a .at) (a .held) (a .content .now) plain (left .before .pre .1 .1) (left .if1 .left) _ (plain-byte _ (c .before .if2 .left)) (c .if3 .left)
 
 pub +read-escaped+read-plain-spec : {M : Type 1} → statement M
 +read-escaped+read-plain-spec = close μ-read-escaped μ-read-plain (λ t. read-escaped-lts.spec (read-escaped-claims t)

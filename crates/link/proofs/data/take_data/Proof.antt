@@ -1,9 +1,9 @@
--- `link::receiver::take_data` meets its contract: what it calls answers for the reply, the counts and the packet.
+-- `link::data::take_data` meets its contract: what it calls answers for the reply, the counts and the packet.
 use borrow.Author.Needs.{needs}
 use mathlib.Core.Path.{refl, sym, _∙_}
 use Rattle.link.proofs.ClosingLaws.{data-again, data-new}
-use Rattle.link.proofs.receiver.take_data.Statement.{statement}
-use Rattle.link.proofs.receiver.take_data.Tie as tie
+use Rattle.link.proofs.data.take_data.Statement.{statement}
+use Rattle.link.proofs.data.take_data.Tie as tie
 
 acknowledge-requires : tie.Need-acknowledge-requires
 acknowledge-requires c κs = search needs
@@ -19,11 +19,16 @@ same-length c = search needs
 
 returns : tie.Need-returns
 returns c =
-    let a = c .before .before .before .before .before .before .before .before .before .before .args in
-    let reply = c .before .before .before .before .before .acknowledge .ensures in
-    let again = sym (c .before .before .repeated .ensures) ∙ c .before .if1 .taken in
+    let tested = c .before .before in
+    let answered = tested .before .before .before in
+    let a = answered .before .before .before .before .before .args in
+    let again = sym (tested .repeated .ensures) ∙ c .before .if1 .taken in
     rw (data-again (a .sequence) (a .payload .now) (a .last) (a .counts) again)
-    (record { answers = rw (c .count .ensures, reply .answers); replied = reply .replied; handed-out = refl })
+    (record {
+      answers = rw (c .count .ensures, answered .acknowledge .ensures .answers);
+      replied = answered .acknowledge .ensures .replied;
+      handed-out = refl;
+    })
 
 put-requires : tie.Need-put-requires
 put-requires c κs = search needs
@@ -39,11 +44,18 @@ same-length-3 c = search needs
 
 returns-2 : tie.Need-returns-2
 returns-2 c =
-    let a = c .before .before .before .before .before .before .before .before .before .before .before .before .before .before .args in
-    let reply = c .before .before .before .before .before .before .before .before .before .acknowledge .ensures in
-    let new = sym (c .before .before .before .before .before .before .repeated .ensures) ∙ c .before .before .before .before .before .if1 .left in
+    let handed-out = c .before .before .before in
+    let other = handed-out .before .before in
+    let tested = other .before in
+    let answered = tested .before .before .before in
+    let a = answered .before .before .before .before .before .args in
+    let new = sym (tested .repeated .ensures) ∙ other .if1 .left in
     rw (data-new (a .sequence) (a .payload .now) (a .last) (a .counts) new)
-    (record { answers = rw (c .count2 .ensures, reply .answers); replied = reply .replied; handed-out = c .before .before .before .put .ensures })
+    (record {
+      answers = rw (c .count2 .ensures, answered .acknowledge .ensures .answers);
+      replied = answered .acknowledge .ensures .replied;
+      handed-out = handed-out .put .ensures;
+    })
 
 pub take-data-spec : {M : Type 1} → statement M
 take-data-spec =

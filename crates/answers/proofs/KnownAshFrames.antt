@@ -8,19 +8,20 @@ use Rattle.slices.specs.Put.{putAt}
 use Rattle.slices.specs.Each.{each}
 use Rattle.slices.specs.Same.{sameBytes}
 use Rattle.crc.specs.Crc.{shiftBit, shiftBits, addByte, crcOf}
 use Rattle.ash.specs.Reserved.{reserved}
 use Rattle.ash.specs.Stuffing.{payloadMax, stuff, unstuffFrom}
 use Rattle.ash.specs.Header.{headerOf, sentHeader, goodHeader}
 use Rattle.ash.specs.Check.{spread, checkOver}
-use Rattle.ash.specs.Writing.{frameOf, written, writeFrame}
+use Rattle.slices.specs.Written.{written, fitted}
+use Rattle.ash.specs.Writing.{frameOf, writeFrame}
 use Rattle.ash.specs.Reading.{frame, readByLength, readByHeader, readFrame}
 use Rattle.ash.specs.declared.reader.FrameRead.{FrameRead}
 use Rattle.ash.specs.declared.reader.FrameRead.the-variants.{Frame}
-use Rattle.ash.specs.declared.writer.Written.{Written}
-use Rattle.ash.specs.declared.writer.Written.the-variants.{Length}
+use Rattle.slices.specs.declared.Written.{Written}
+use Rattle.slices.specs.declared.Written.the-variants.{Length}
 use Rattle.ash.proofs.FrameTheorems.{written-read-back}
 use Rattle.ash.proofs.Calls.{Writes, Reads}
 use Rattle.ash.proofs.FrameCalls.{call-reads, call-writes}
 
 -- 02, C-11: RESET has type 0, OFC 1 and AFC 0; RESET ACK has type 1, OFC 1 and AFC 1
 abbrev reset : List ℕ
@@ -30,7 +31,7 @@ abbrev resetAcknowledgement : List ℕ
 resetAcknowledgement = 0x7e ∷ 0x00 ∷ 0x49 ∷ 0x00 ∷ 0x47 ∷ 0x6b ∷ 0xc0 ∷ []
 
 pub known-written : (writeFrame 7 0x08 [] ≡ written reset) × (writeFrame 7 0x49 [] ≡ written resetAcknowledgement)
-unfolding writeFrame frameOf sentHeader headerOf checkOver spread crcOf addByte shiftBits shiftBit reserved each
+unfolding writeFrame fitted frameOf sentHeader headerOf checkOver spread crcOf addByte shiftBits shiftBit reserved each
 known-written = (refl, refl)
 
 pub known-read : (readFrame 57 reset ≡ frame 0x08 []) × (readFrame 57 resetAcknowledgement ≡ frame 0x49 [])

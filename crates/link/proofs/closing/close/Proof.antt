@@ -1,8 +1,9 @@
--- `link::receiver::close` meets its contract: each end computes to its own case, and a length past the array is all of it.
+-- `link::closing::close` meets its contract: each end computes to its own case, and a length past the array is all of it.
 use borrow.Author.Needs.{needs}
 use mathlib.Core.Path.{refl}
-use Rattle.link.proofs.receiver.close.Statement.{statement}
-use Rattle.link.proofs.receiver.close.Tie as tie
+use Rattle.link.proofs.ClosingLaws.{refuses}
+use Rattle.link.proofs.closing.close.Statement.{statement}
+use Rattle.link.proofs.closing.close.Tie as tie
 
 enum-told : tie.Need-enum-told
 enum-told c = search needs
@@ -26,7 +27,9 @@ returns : tie.Need-returns
 returns c = rw (c .enum-told .given .1) (record { answers = refl; replied = refl; handed-out = refl })
 
 returns-2 : tie.Need-returns-2
-returns-2 c = rw (c .before .before .ended .given .1) (record { answers = c .refuse .ensures; replied = refl; handed-out = refl })
+returns-2 c =
+    let told = c .before .before in
+    rw (told .ended .given .1) (refuses _ _ _ _ _ _ _ refl (c .refuse .ensures))
 
 same-length : tie.Need-same-length
 same-length c = search needs
@@ -37,7 +40,8 @@ same-length-2 c = search needs
 returns-3 : tie.Need-returns-3
 returns-3 c =
     let frame = c .before .before .before .before in
-    rw (frame .before .before .before .before .before .ended2 .given .1, ← frame .before .before .before .first .ensures) (frame .take-frame .ensures)
+    let whole = frame .before .before .before in
+    rw (whole .before .before .ended2 .given .1, ← whole .first .ensures) (frame .take-frame .ensures)
 
 pub close-spec : {M : Type 1} → statement M
 close-spec =

@@ -1,8 +1,8 @@
--- `link::receiver::repeated` meets its contract: the tests are the definition's.
+-- `link::data::repeated` meets its contract: the tests are the definition's.
 use borrow.Author.Needs.{needs}
 use borrow.Author.Tests.{eq-eqb, ne-eqb}
-use Rattle.link.proofs.receiver.repeated.Statement.{statement}
-use Rattle.link.proofs.receiver.repeated.Tie as tie
+use Rattle.link.proofs.data.repeated.Statement.{statement}
+use Rattle.link.proofs.data.repeated.Tie as tie
 
 enum-told : tie.Need-enum-told
 enum-told c = search needs

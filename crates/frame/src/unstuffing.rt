@@ -1,0 +1,107 @@
+// Unstuffing: the plain and the escaped reader of a whole frame call each other, and the bytes left
+// fall with each call. They work on arrays and numbers alone, so that their calls become jumps and
+// need no stack; what they answer as a number is an enum to the rest of the crate.
+use crate::CONTENT_MAX;
+use crate::ESCAPE;
+use crate::ESCAPED_ESCAPE;
+use crate::ESCAPED_FLAG;
+use refusals::BAD_FRAMING;
+use refusals::LONG_CONTENT;
+ghost use mathlib.Core.Path.{_≡_};
+ghost use Prim.Native.Nat.{_≤_, min};
+ghost use lib.ListN.{length, take, drop};
+ghost use Rattle.frame.specs.Stuffing.{plain, escaped, unstuffFrom, unstuff};
+ghost use Rattle.frame.specs.ReaderSteps.{sentMax, ReadersAs, UnstuffsAs};
+
+// So many sent bytes hold a fault or a byte too many, if they do not end before.
+const SENT_MAX: usize = 2 * (CONTENT_MAX + 1);
+// The readers answer a refusal as its number above any length of content.
+const FRAMING_FAULT: usize = CONTENT_MAX + BAD_FRAMING as usize;
+
+const LENGTH_FAULT: usize = CONTENT_MAX + LONG_CONTENT as usize;
+
+// What sent bytes turned out to be: so many bytes of content, or the refusal's number.
+pub enum Unstuffed {
+    Content(usize),
+    Refused(u8),
+}
+
+// Unstuffs the sent bytes between two flags to the start of `content`. What a refusal leaves there is
+// open.
+pub(crate) fn unstuff(run: &[u8], content: &mut [u8; CONTENT_MAX]) -> Unstuffed
+    ensures { λ r. ⌜ UnstuffsAs (unstuff (now (run .entry))) (now (content .entry)) r (now (content .exit)) ⌝ }
+{
+    let mut sent = [0u8; SENT_MAX];
+    slices::put(&mut sent, 0, run);
+    let count = sent_count(run.len());
+    let answer = read_plain(&sent, count, 0, content, 0);
+    if answer == FRAMING_FAULT {
+        return Unstuffed::Refused(BAD_FRAMING);
+    }
+    if answer == LENGTH_FAULT {
+        return Unstuffed::Refused(LONG_CONTENT);
+    }
+    Unstuffed::Content(answer)
+}
+
+// How many of `n` sent bytes have to be looked at.
+fn sent_count(n: usize) -> usize
+    ensures { λ r. ⌜ r ≡ min n sentMax ⌝ }
+{
+    if n < SENT_MAX { n } else { SENT_MAX }
+}
+
+// Unstuffs the first `count` bytes sent from the place `at` on, behind `held` bytes of content.
+fn read_plain(
+    sent: &[u8; SENT_MAX],
+    count: usize,
+    at: usize,
+    content: &mut [u8; CONTENT_MAX],
+    held: usize,
+) -> usize
+    requires { ⌜ (count ≤ sentMax) × (count ≤ length (now sent)) ⌝ }
+    ensures { λ r. ⌜ ReadersAs (unstuffFrom plain held (drop at (take count (now (sent .entry))))) held (now (content .entry)) r (now (content .exit)) ⌝ }
+{
+    if count <= at {
+        return held;
+    }
+    let byte = sent[at];
+    let next = at + 1;
+    if byte == ESCAPE {
+        return read_escaped(sent, count, next, content, held);
+    }
+    if held < CONTENT_MAX {
+        content[held] = byte;
+        return read_plain(sent, count, next, content, held + 1);
+    }
+    LENGTH_FAULT
+}
+
+// The same right behind an escape byte, for exactly one byte. A pair's second byte is 20 hex less
+// than the byte that the pair stands for.
+fn read_escaped(
+    sent: &[u8; SENT_MAX],
+    count: usize,
+    at: usize,
+    content: &mut [u8; CONTENT_MAX],
+    held: usize,
+) -> usize
+    requires { ⌜ (count ≤ sentMax) × (count ≤ length (now sent)) ⌝ }
+    ensures { λ r. ⌜ ReadersAs (unstuffFrom escaped held (drop at (take count (now (sent .entry))))) held (now (content .entry)) r (now (content .exit)) ⌝ }
+{
+    if count <= at {
+        return FRAMING_FAULT;
+    }
+    let byte = sent[at];
+    let next = at + 1;
+    match byte {
+        ESCAPED_FLAG | ESCAPED_ESCAPE => {
+            if held < CONTENT_MAX {
+                content[held] = byte + 0x20;
+                return read_plain(sent, count, next, content, held + 1);
+            }
+            LENGTH_FAULT
+        }
+        _ => FRAMING_FAULT,
+    }
+}

@@ -14,7 +14,7 @@ use Rattle.packet.specs.Packet.{isData, withItems, packetOf}
 use Rattle.rows.specs.Names.{placeFrom, used}
 use Rattle.rows.specs.Rows.{changeAt}
 use Rattle.value.specs.Value.{numberOf, valueOf}
-use Rattle.board.specs.Reading.{taskOfItems, taskOf, valueOfItem, withValue, withName, verdictOf, ifWatched, readingOf, updated, applied, readBoard}
+use Rattle.board.specs.Reading.{valueOfItem, withValue, withName, updateOf, verdictOfItems, verdictOf, ifWatched, readingOf, updated, applied, readBoard}
 use Rattle.link.specs.Reader.{stepOf}
 use Rattle.link.specs.Walk.{turnOf, walkOf}
 use Rattle.link.specs.Closing.{acknowledgement, dataFrame, frameOutcome}
@@ -33,5 +33,5 @@ abbrev answer : Case → Result
 answer c = c .answer
 
 pub known-answers : map computed table ≡ map answer table
-unfolding crcOf addByte shiftBits shiftBit each contentOf framed writeContent writeFrame unstuffFrom unstuff judged readRun turn taken frameOf step after moreAt ledger.updated readFrame flaggedBytes firstFlag acknowledgement receivePiece receiveOf walkCall walkOf turnOf stepOf frameOutcome dataFrame readBoard applied updated used changeAt readingOf ifWatched verdictOf withName withValue valueOfItem taskOf taskOfItems valueOf numberOf placeFrom sameBytes packetOf isData withItems itemsOf ifEofsEmpty itemsFilling itemsUpTo inFront eofsEmpty emptyIfEof countOf firstOf behindOf headOf validName between isLetter isNameByte allNameBytes
+unfolding crcOf addByte shiftBits shiftBit each contentOf framed writeContent writeFrame unstuffFrom unstuff judged readRun turn taken frameOf step after moreAt ledger.updated readFrame flaggedBytes firstFlag acknowledgement receivePiece receiveOf walkCall walkOf turnOf stepOf frameOutcome dataFrame readBoard applied updated used changeAt readingOf ifWatched verdictOf withName withValue valueOfItem updateOf verdictOfItems valueOf numberOf placeFrom sameBytes packetOf isData withItems itemsOf ifEofsEmpty itemsFilling itemsUpTo inFront eofsEmpty emptyIfEof countOf firstOf behindOf headOf validName between isLetter isNameByte allNameBytes
 known-answers = refl

@@ -22,7 +22,7 @@ use Rattle.rows.specs.Names.{placeFrom}
 use Rattle.rows.specs.declared.Board.{Board}
 use Rattle.rows.specs.declared.State.the-variants.{Current}
 use Rattle.value.specs.Value.{numberOf, valueOf}
-use Rattle.board.specs.Reading.{taskOfItems, taskOf, valueOfItem, withValue, withName, verdictOf, ifWatched, readingOf}
+use Rattle.board.specs.Reading.{valueOfItem, withValue, withName, updateOf, verdictOfItems, verdictOf, ifWatched, readingOf}
 use Rattle.link.specs.declared.counts.Counts.{Counts}
 use Rattle.display.specs.declared.Display.{Display}
 use Rattle.ledger.specs.Ledger.{moreAt, updated, start}
@@ -66,11 +66,11 @@ abbrev more : Left
 more = asLeft names (step (after (start names) cs) sent .given)
 
 last-is : lastSequence (history cs left) ≡ some 0x01
-unfolding given history marksFrom framesOf dataSequences lastFrom crcOf addByte shiftBits shiftBit each contentOf framed unstuffFrom unstuff judged readRun turn taken frameOf step after moreAt updated readingOf ifWatched verdictOf withName withValue valueOfItem taskOf taskOfItems valueOf numberOf placeFrom sameBytes packetOf isData withItems itemsOf ifEofsEmpty itemsFilling itemsUpTo inFront eofsEmpty emptyIfEof countOf firstOf behindOf headOf validName between isLetter isNameByte allNameBytes
+unfolding given history marksFrom framesOf dataSequences lastFrom crcOf addByte shiftBits shiftBit each contentOf framed unstuffFrom unstuff judged readRun turn taken frameOf step after moreAt updated readingOf ifWatched verdictOf withName withValue valueOfItem updateOf verdictOfItems valueOf numberOf placeFrom sameBytes packetOf isData withItems itemsOf ifEofsEmpty itemsFilling itemsUpTo inFront eofsEmpty emptyIfEof countOf firstOf behindOf headOf validName between isLetter isNameByte allNameBytes
 last-is = refl
 
 closes : Closes (history cs left) (eventsOf sent more) (good 0x01 payload)
-unfolding given history marksFrom framesOf crcOf addByte shiftBits shiftBit each contentOf framed unstuffFrom unstuff judged readRun turn taken frameOf step after moreAt updated readingOf ifWatched verdictOf withName withValue valueOfItem taskOf taskOfItems valueOf numberOf placeFrom sameBytes packetOf isData withItems itemsOf ifEofsEmpty itemsFilling itemsUpTo inFront eofsEmpty emptyIfEof countOf firstOf behindOf headOf validName between isLetter isNameByte allNameBytes
+unfolding given history marksFrom framesOf crcOf addByte shiftBits shiftBit each contentOf framed unstuffFrom unstuff judged readRun turn taken frameOf step after moreAt updated readingOf ifWatched verdictOf withName withValue valueOfItem updateOf verdictOfItems valueOf numberOf placeFrom sameBytes packetOf isData withItems itemsOf ifEofsEmpty itemsFilling itemsUpTo inFront eofsEmpty emptyIfEof countOf firstOf behindOf headOf validName between isLetter isNameByte allNameBytes
 closes = refl
 
 -- THEOREM. Every display that is given these calls drops the second frame: it is answered again, and the board is as it was.
@@ -93,7 +93,7 @@ pub record Shows (end : Display) : Type 0 where
 
 -- THEOREM. Every display that is given these calls then shows 3450 with age 1, and has counted new 1 and again 1.
 pub value-is-shown : (d end : Display) (left₁ : List Left) → Begins (one-by-one names) d → Chain d all left₁ end → Shows end
-unfolding crcOf addByte shiftBits shiftBit each contentOf framed unstuffFrom unstuff judged readRun turn taken frameOf step after moreAt updated readingOf ifWatched verdictOf withName withValue valueOfItem taskOf taskOfItems valueOf numberOf placeFrom sameBytes packetOf isData withItems itemsOf ifEofsEmpty itemsFilling itemsUpTo inFront eofsEmpty emptyIfEof countOf firstOf behindOf headOf validName between isLetter isNameByte allNameBytes
+unfolding crcOf addByte shiftBits shiftBit each contentOf framed unstuffFrom unstuff judged readRun turn taken frameOf step after moreAt updated readingOf ifWatched verdictOf withName withValue valueOfItem updateOf verdictOfItems valueOf numberOf placeFrom sameBytes packetOf isData withItems itemsOf ifEofsEmpty itemsFilling itemsUpTo inFront eofsEmpty emptyIfEof countOf firstOf behindOf headOf validName between isLetter isNameByte allNameBytes
 value-is-shown d end left₁ begins chain =
     let agrees = agreeing refl begins chain .all .agrees in
     record {

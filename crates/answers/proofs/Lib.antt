@@ -1,2 +1,3 @@
 pub mod KnownAnswers
 pub mod KnownRuns
+pub mod PacketVerdicts

@@ -103,7 +103,7 @@ table =
     ∷ given 6 (rows (map shown (after (start (h1 ∷ h2 ∷ [])) (piece frame6 (replicate 9 0) (replicate 383 0) ∷ []) .entries)))
     (rows (current (pos 3450) 0 ∷ never ∷ []))
     ∷ given 6 (outcome (receivePiece (fresh (boardOf (h1 ∷ h2 ∷ []))) frame6 9 383))
-    (displayed (New 6 14 (board.the-variants.Updated 0)) (0x7e ∷ 0x02 ∷ 0x00 ∷ 0x7b ∷ 0x6d ∷ 0x7e ∷ []) (Current (pos 3450) 0 ∷ replicate 15 Never))
+    (displayed (New 6 14 (board.the-variants.Updated 0 0)) (0x7e ∷ 0x02 ∷ 0x00 ∷ 0x7b ∷ 0x6d ∷ 0x7e ∷ []) (Current (pos 3450) 0 ∷ replicate 15 Never))
     ∷ given 7 (value (valueOf 0x02 (0xff ∷ 0x38 ∷ []))) (value (some (negsuc 199)))
     ∷ given 7 (value (valueOf 0x02 (0x80 ∷ []))) (value (some (negsuc 127)))
     ∷ given 8 (value (valueOf 0x16 (0x00 ∷ 0x00 ∷ 0x26 ∷ 0x90 ∷ []))) (value (some (pos 9872)))

@@ -20,7 +20,7 @@ use Rattle.rows.specs.declared.Board.{Board}
 use Rattle.rows.proofs.NameLaws.{in-used, empty-unused, used-first}
 use Rattle.rows.proofs.EntryLaws.{Named, showing-names}
 use Rattle.board.specs.WatchList.{Good, mayJoin, isWhole, namesFrom, watchNames}
-use Rattle.board.specs.Reading.{Verdict, refused, endMark, update, taskOf, verdictOf, ifWatched, readingOf, refusedWith, updated, applied, readBoard}
+use Rattle.board.specs.Reading.{Verdict, refused, endMark, update, verdictOf, ifWatched, readingOf, refusedWith, updated, applied, readBoard}
 use Rattle.board.specs.declared.reading.Answer.the-variants.{Updated, EndMark}
 use Rattle.board.proofs.WatchLaws.{Fits, none-empty, fresh-name, good-none, good-more}
 
@@ -70,13 +70,13 @@ there board (byte ∷ bytes) e =
     cases none h s = impossible cc
 
 -- only a watched name is updated
-update-watched : (names : List (List ℕ)) (v : Verdict) (name : List ℕ) (value : ℤ) → ifWatched names v ≡ update name value → isIn name names ≡ true
+update-watched : (names : List (List ℕ)) (v : Verdict) (id : ℕ) (name : List ℕ) (value : ℤ) → ifWatched names v ≡ update id name value → isIn name names ≡ true
 unfolding ifWatched
-update-watched names (refused number) name value e = impossible cc
-update-watched names endMark name value e = impossible cc
-update-watched names (update found number) name value e = cases (isIn found names) refl e
+update-watched names (refused number) id name value e = impossible cc
+update-watched names (endMark found) id name value e = impossible cc
+update-watched names (update found-id found number) id name value e = cases (isIn found names) refl e
   where
-    cases : (t : Bool) → isIn found names ≡ t → cond t (update found number) (refused notWatched) ≡ update name value → isIn name names ≡ true
+    cases : (t : Bool) → isIn found names ≡ t → cond t (update found-id found number) (refused notWatched) ≡ update id name value → isIn name names ≡ true
     cases true h e = let same : found ≡ name = cc in rw (← same) h
     cases false h e = impossible cc
 
@@ -87,16 +87,16 @@ module _ (board : Board) (bytes : List ℕ) where
   read-refused number e = rw e
 
   -- an end mark leaves the board as it was
-  pub read-end : readingOf (watched board) bytes ≡ endMark → readBoard board bytes ≡ record { board = board; answer = EndMark }
+  pub read-end : (id : ℕ) → readingOf (watched board) bytes ≡ endMark id → readBoard board bytes ≡ record { board = board; answer = EndMark id }
   unfolding readBoard applied
-  read-end e = rw e
+  read-end id e = rw e
 
   -- an update is answered by the place of its name's row
-  pub read-update : (name : List ℕ) (value : ℤ) (place : ℕ) → readingOf (watched board) bytes ≡ update name value → placeOf name (rowNames board) ≡ some place → readBoard board bytes ≡ record { board = updateBoard place value board; answer = Updated place }
+  pub read-update : (id : ℕ) (name : List ℕ) (value : ℤ) (place : ℕ) → readingOf (watched board) bytes ≡ update id name value → placeOf name (rowNames board) ≡ some place → readBoard board bytes ≡ record { board = updateBoard place value board; answer = Updated place id }
   unfolding readBoard applied updated
-  read-update name value place e stands = rw (e, stands)
+  read-update id name value place e stands = rw (e, stands)
 
   -- and a name that is updated has a row
-  pub update-there : (name : List ℕ) (value : ℤ) → readingOf (watched board) bytes ≡ update name value → There board name
+  pub update-there : (id : ℕ) (name : List ℕ) (value : ℤ) → readingOf (watched board) bytes ≡ update id name value → There board name
   unfolding readingOf
-  update-there name value e = there board name (update-watched (watched board) (verdictOf (taskOf (packetOf bytes))) name value e)
+  update-there id name value e = there board name (update-watched (watched board) (verdictOf (packetOf bytes)) id name value e)

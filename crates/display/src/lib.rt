@@ -105,8 +105,8 @@ fn count_reading(link: Link, reading: board::Answer) -> Link
 {
     match reading {
         board::Answer::Refused(_) => count_unread(link),
-        board::Answer::EndMark => link,
-        board::Answer::Updated(_) => link,
+        board::Answer::EndMark { .. } => link,
+        board::Answer::Updated { .. } => link,
     }
 }
 

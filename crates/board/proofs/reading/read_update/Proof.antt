@@ -40,7 +40,7 @@ valid c = sym (tested (c .before)) ∙ not-false (c .before .valid-name .result)
 
 -- the packet, where the value item was found
 abbrev packet : tie.After-kind → List ℕ
-packet c = c .before .before .before .before .before .before .before .args .packet .now
+packet c = let test = c .before .before .before in test .before .before .before .before .args .packet .now
 
 -- the value item there
 abbrev value-at : tie.After-kind → Item
@@ -73,10 +73,17 @@ good c =
     let item = value-at (read .before .before .before) in
     value-number (valueOf (item .kind) (item .value)) (c .value2 .given .0 .0) (sym (judged read) ∙ c .value2 .given .1)
 
+-- where the Name was read, from where its row is looked for
+abbrev named-at : tie.After-find → tie.After-value
+named-at c =
+    let number = c .before .before in
+    let place = number .before .before .before .before .before in
+    place .before .before .before .before .before
+
 -- the row that was looked for has the Name
-looked : (c : tie.After-find) → c .find .result ≡ asPlace (placeOf (valueIn nameKind (items (c .before .before .before .before .before .before .before .before .before .before .before .before))) (rowNames (c .before .before .before .before .before .before .before .before .before .before .before .before .before .before .args .board)))
+looked : (c : tie.After-find) → c .find .result ≡ asPlace (placeOf (valueIn nameKind (items (named-at c))) (rowNames (named-at c .before .before .args .board)))
 looked c =
-    let named = c .before .before .before .before .before .before .before .before .before .before .before .before in
+    let named = named-at c in
     c .find .ensures ∙ ap (λ (name : List ℕ). asPlace (placeOf name (rowNames (named .before .before .args .board)))) (named .value .ensures)
 
 value-requires : tie.Need-value-requires
@@ -91,8 +98,9 @@ refused-requires c κs = search needs
 returns : tie.Need-returns
 returns c =
     let test = c .before .before in
+    let args = test .before .before .before .args in
     let bad = sym (tested test) ∙ not-true (test .valid-name .result) (c .before .if1 .taken) in
-    c .refused .ensures ∙ sym (update-bad-name (test .before .before .before .args .board) (items (test .before)) bad)
+    c .refused .ensures ∙ sym (update-bad-name (args .board) (args .id) (items (test .before)) bad)
 
 behind-requires : tie.Need-behind-requires
 behind-requires c κs = search needs
@@ -113,7 +121,7 @@ returns-2 c =
     let test = behind .before in
     let args = test .before .before .before .before .args in
     let nothing = sym (value-reads (args .packet .now) nameKind .same) ∙ ap (itemAt (args .packet .now)) (sym (behind .behind .ensures) ∙ c .before .enum-told .given .1) in
-    c .refused2 .ensures ∙ sym (update-no-value (args .board) (items (test .before .before)) (valid test) nothing)
+    c .refused2 .ensures ∙ sym (update-no-value (args .board) (args .id) (items (test .before .before)) (valid test) nothing)
 
 add-end : tie.Need-add-end
 add-end c = let h = value-within (c .before) in omega arith
@@ -146,13 +154,13 @@ returns-3 c =
     let test = place .before .before .before in
     let args = test .before .before .before .before .args in
     let bad = value-bad (valueOf (value-at place .kind) (value-at place .value)) (sym (judged read) ∙ c .before .enum-told2 .given .1) in
-    c .refused3 .ensures ∙ sym (update-bad-value (args .board) (items (test .before .before)) (valid test) (value-at place) (valued place) bad)
+    c .refused3 .ensures ∙ sym (update-bad-value (args .board) (args .id) (items (test .before .before)) (valid test) (value-at place) (valued place) bad)
 
 find-requires : tie.Need-find-requires
 find-requires c κs = search needs
 
-enum-known-place : tie.Need-enum-known-place
-enum-known-place c = search needs
+enum-known-row : tie.Need-enum-known-row
+enum-known-row c = search needs
 
 enum-told-3 : tie.Need-enum-told-3
 enum-told-3 c = search needs
@@ -170,7 +178,7 @@ returns-4 c =
     let name = valueIn nameKind (items (test .before .before)) in
     let nowhere = place-nowhere (placeOf name (rowNames (args .board))) (sym (looked look) ∙ c .before .enum-told3 .given .1) in
     c .refused4 .ensures
-    ∙ sym (update-unwatched (args .board) (items (test .before .before)) (valid test) (value-at place) (valued place) (number .value2 .given .0 .0) (good number) nowhere)
+    ∙ sym (update-unwatched (args .board) (args .id) (items (test .before .before)) (valid test) (value-at place) (valued place) (number .value2 .given .0 .0) (good number) nowhere)
 
 update-requires : tie.Need-update-requires
 update-requires c κs = search needs
@@ -184,10 +192,10 @@ returns-5 c =
     let test = place .before .before .before in
     let args = test .before .before .before .before .args in
     let name = valueIn nameKind (items (test .before .before)) in
-    let there = place-row (placeOf name (rowNames (args .board))) (row .place .given .0 .0) (sym (looked look) ∙ row .place .given .1) in
+    let there = place-row (placeOf name (rowNames (args .board))) (row .row .given .0 .0) (sym (looked look) ∙ row .row .given .1) in
     let back : toZ w64 (ofZ w64 (number .value2 .given .0 .0)) ≡ number .value2 .given .0 .0 = toZ-ofZ (record { sfits = look .before .known-told2 .given .0 .1 }) in
     rw (c .update .ensures, back)
-    (sym (update-row (args .board) (items (test .before .before)) (valid test) (value-at place) (valued place) (number .value2 .given .0 .0) (good number) (row .place .given .0 .0) there))
+    (sym (update-row (args .board) (args .id) (items (test .before .before)) (valid test) (value-at place) (valued place) (number .value2 .given .0 .0) (good number) (row .row .given .0 .0) there))
 
 pub read-update-spec : {M : Type 1} → statement M
 read-update-spec =
@@ -212,7 +220,7 @@ read-update-spec =
     refused-requires-3
     returns-3
     find-requires
-    enum-known-place
+    enum-known-row
     enum-told-3
     refused-requires-4
     returns-4

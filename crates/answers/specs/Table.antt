@@ -100,7 +100,7 @@ table =
     ∷ given 3 (bytes (acknowledgement 0x00)) (bytes (0x7e ∷ 0x02 ∷ 0x00 ∷ 0x7b ∷ 0x6d ∷ 0x7e ∷ []))
     ∷ given 4 (bytes (acknowledgement 0x7d)) (bytes (0x7e ∷ 0x02 ∷ 0x7d ∷ 0x5d ∷ 0xd4 ∷ 0x57 ∷ 0x7e ∷ []))
     ∷ given 5 (check (crcOf linkStart [])) (check 0xffff)
-    ∷ given 6 (rows (map shown (after (start (h1 ∷ h2 ∷ [])) (piece frame6 (replicate 9 0) (replicate 383 0) ∷ []) .entries)))
+    ∷ given 6 (rows (map shown (after (start (h1 ∷ h2 ∷ [])) (piece frame6 (replicate 9 0) (replicate 383 0) ∷ []) .hives .entries)))
     (rows (current (pos 3450) 0 ∷ never ∷ []))
     ∷ given 6 (outcome (receivePiece (fresh (boardOf (h1 ∷ h2 ∷ []))) frame6 9 383))
     (displayed (New 6 14 (board.the-variants.Updated 0 0)) (0x7e ∷ 0x02 ∷ 0x00 ∷ 0x7b ∷ 0x6d ∷ 0x7e ∷ []) (Current (pos 3450) 0 ∷ replicate 15 Never))

@@ -46,8 +46,8 @@ pub record Dropped (sequence : ℕ) (reply packet : List ℕ) (before : Display)
 -- new plus 1, and for a packet that the board refused unread plus 1
 abbrev pub countRead : board-answer.Answer → Counts → Counts
 countRead (board-answer.the-variants.Refused n) counts = countOf event.Unread (countOf event.New counts)
-countRead board-answer.the-variants.EndMark counts = countOf event.New counts
-countRead (board-answer.the-variants.Updated row) counts = countOf event.New counts
+countRead (board-answer.the-variants.EndMark id) counts = countOf event.New counts
+countRead (board-answer.the-variants.Updated row id) counts = countOf event.New counts
 
 -- a call that answered it as new: its payload is handed up, and the board has read it
 pub record ReadAsNew (sequence : ℕ) (payload reply packet : List ℕ) (before : Display) (more : Left) (behind : Display) : Type 0 where
@@ -61,14 +61,14 @@ pub record ReadAsNew (sequence : ℕ) (payload reply packet : List ℕ) (before 
 
 -- the ledger's counts after a packet was read
 read-counts : (names : List (List ℕ)) (l : Ledger) (sequence : ℕ) (v : Verdict)
-    → countRead (asReading names v) (asCounts (l .counts)) ≡ asCounts (calls.afterReading (calls.afterNew l sequence) v .counts)
-read-counts names l sequence (reading.refused n) = ap (countOf event.Unread) (count-new (l .counts)) ∙ count-unread (calls.afterNew l sequence .counts)
-read-counts names l sequence reading.endMark = count-new (l .counts)
-read-counts names l sequence (reading.update name value) = by-place (placeOf name names)
+    → countRead (asReading names v) (asCounts (l .line .counts)) ≡ asCounts (calls.afterReading (calls.afterNew l sequence) v .line .counts)
+read-counts names l sequence (reading.refused n) = ap (countOf event.Unread) (count-new (l .line .counts)) ∙ count-unread (calls.afterNew l sequence .line .counts)
+read-counts names l sequence (reading.endMark id) = count-new (l .line .counts)
+read-counts names l sequence (reading.update id name value) = by-place (placeOf name names)
   where
-    by-place : (o : Option ℕ) → countRead (asUpdated o) (asCounts (l .counts)) ≡ asCounts (calls.afterNew l sequence .counts)
-    by-place (some place) = count-new (l .counts)
-    by-place none = count-new (l .counts)
+    by-place : (o : Option ℕ) → countRead (asUpdated id o) (asCounts (l .line .counts)) ≡ asCounts (calls.afterNew l sequence .line .counts)
+    by-place (some place) = count-new (l .line .counts)
+    by-place none = count-new (l .line .counts)
 
 -- by the sequence of the last data frame, if there was one
 pub record AtOnce (last : Option ℕ) (sequence : ℕ) (payload reply packet : List ℕ) (before : Display) (more : Left) (behind : Display) : Type 0 where
@@ -95,20 +95,20 @@ module _ (names : List (List ℕ)) (cs : List Call) (left : List Left) (end : Di
   ledger-is : l ≡ afterHistory (start names) (history cs left)
   ledger-is = after-by names cs left (a .all .gives)
 
-  last-is : lastSequence (history cs left) ≡ l .sequence
-  last-is = sym (ap (λ (m : Ledger). m .sequence) ledger-is ∙ history-sequence (start names) (history cs left))
+  last-is : lastSequence (history cs left) ≡ l .line .sequence
+  last-is = sym (ap (λ (m : Ledger). m .line .sequence) ledger-is ∙ history-sequence (start names) (history cs left))
 
   step-is : ClosedBy l reply packet sequence payload (step l c)
   step-is =
-      let here : framesOf (marksFrom (afterHistory (start names) (history cs left) .run) (eventsOf c more)) ≡ frames.good sequence payload ∷ [] =
+      let here : framesOf (marksFrom (afterHistory (start names) (history cs left) .line .run) (eventsOf c more)) ≡ frames.good sequence payload ∷ [] =
       append-cancel-left (framesIn (history cs left)) _ _ (sym (frames-append (start names) (history cs left) (eventsOf c more)) ∙ closes) in
       step-closes names l bytes reply packet sequence payload (rw (← ledger-is, more-is) at here)
 
-  board-is : end₁ .board ≡ boardShowing (map asEntry (step l c .ledger .entries))
+  board-is : end₁ .board ≡ boardShowing (map asEntry (step l c .ledger .hives .entries))
   unfolding after
   board-is = one-call .agrees .shows .showing
 
-  counts-are : end₁ .link .counts ≡ asCounts (step l c .ledger .counts)
+  counts-are : end₁ .link .counts ≡ asCounts (step l c .ledger .line .counts)
   unfolding after
   counts-are = one-call .agrees .counts-are
 
@@ -120,13 +120,13 @@ module _ (names : List (List ℕ)) (cs : List Call) (left : List Left) (end : Di
         ∙ ap (asLeft names) (step-is .gives)
         ∙ ap (λ (x : Effect). asLeft names (given.took (step-is .count) (x .answer) (putAt reply 0 (x .reply)) (putAt packet 0 (x .packet)))) is
 
-    shown-is : end₁ .board ≡ boardShowing (map asEntry (e .ledger .entries))
-    shown-is = board-is ∙ ap (λ (m : Ledger). boardShowing (map asEntry (m .entries))) (step-is .leaves ∙ ap (λ (x : Effect). x .ledger) is)
+    shown-is : end₁ .board ≡ boardShowing (map asEntry (e .ledger .hives .entries))
+    shown-is = board-is ∙ ap (λ (m : Ledger). boardShowing (map asEntry (m .hives .entries))) (step-is .leaves ∙ ap (λ (x : Effect). x .ledger) is)
 
-    counted-is : end₁ .link .counts ≡ asCounts (e .ledger .counts)
-    counted-is = counts-are ∙ ap (λ (m : Ledger). asCounts (m .counts)) (step-is .leaves ∙ ap (λ (x : Effect). x .ledger) is)
+    counted-is : end₁ .link .counts ≡ asCounts (e .ledger .line .counts)
+    counted-is = counts-are ∙ ap (λ (m : Ledger). asCounts (m .line .counts)) (step-is .leaves ∙ ap (λ (x : Effect). x .ledger) is)
 
-  pub dropped : repeated (l .sequence) sequence ≡ true → Dropped sequence reply packet end more end₁
+  pub dropped : repeated (l .line .sequence) sequence ≡ true → Dropped sequence reply packet end more end₁
   dropped again =
       let run = withRun l (step-is .run) in
       let is : closed run (frames.good sequence payload) ≡ calls.repeatedFrame run sequence = rw again in
@@ -135,11 +135,11 @@ module _ (names : List (List ℕ)) (cs : List Call) (left : List Left) (end : Di
         answers = left-is (calls.repeatedFrame run sequence) is;
         counts =
             counted-is (calls.repeatedFrame run sequence) is
-            ∙ sym (ap (countOf event.Again) (a .all .agrees .counts-are) ∙ count-again (l .counts));
+            ∙ sym (ap (countOf event.Again) (a .all .agrees .counts-are) ∙ count-again (l .line .counts));
         board = shown-is (calls.repeatedFrame run sequence) is ∙ sym (a .all .agrees .shows .showing);
       }
 
-  pub read-new : repeated (l .sequence) sequence ≡ false → ReadAsNew sequence payload reply packet end more end₁
+  pub read-new : repeated (l .line .sequence) sequence ≡ false → ReadAsNew sequence payload reply packet end more end₁
   read-new fresh =
       let run = withRun l (step-is .run) in
       let is : closed run (frames.good sequence payload) ≡ calls.newFrame run sequence payload = rw fresh in
@@ -161,9 +161,9 @@ module _ (names : List (List ℕ)) (cs : List Call) (left : List Left) (end : Di
   by-last : AtOnce (lastSequence (history cs left)) sequence payload reply packet end more end₁
   by-last =
       record {
-        repeated = λ same some-sequence. dropped (repeats (l .sequence) sequence (sym last-is ∙ same) some-sequence);
-        zero = λ none. read-new (zero-new (l .sequence) sequence none);
-        other = λ differs. read-new (other-new (l .sequence) sequence (λ same. differs (last-is ∙ same)));
+        repeated = λ same some-sequence. dropped (repeats (l .line .sequence) sequence (sym last-is ∙ same) some-sequence);
+        zero = λ none. read-new (zero-new (l .line .sequence) sequence none);
+        other = λ differs. read-new (other-new (l .line .sequence) sequence (λ same. differs (last-is ∙ same)));
       }
 
 -- THEOREM. After every list of calls: where the next call closes a good data frame that has the sequence of the last data frame, not 0,

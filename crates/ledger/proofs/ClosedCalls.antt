@@ -38,7 +38,7 @@ pub record ClosedBy (l : Ledger) (reply packet : List ℕ) (sequence : ℕ) (pay
   pub leaves : s .ledger ≡ closed (withRun l run) (frames.good sequence payload) .ledger
 
 pub step-closes : (names : List (List ℕ)) (l : Ledger) (bytes reply packet : List ℕ) (sequence : ℕ) (payload : List ℕ)
-    → framesOf (marksFrom (l .run) (eventsOf (piece bytes reply packet) (asLeft names (step l (piece bytes reply packet) .given)))) ≡ frames.good sequence payload ∷ []
+    → framesOf (marksFrom (l .line .run) (eventsOf (piece bytes reply packet) (asLeft names (step l (piece bytes reply packet) .given)))) ≡ frames.good sequence payload ∷ []
     → ClosedBy l reply packet sequence payload (step l (piece bytes reply packet))
 unfolding step marksFrom framesOf
 step-closes names l bytes reply packet sequence payload = by-room (ltb (length reply) 9 || ltb (length packet) 383)
@@ -51,12 +51,12 @@ step-closes names l bytes reply packet sequence payload = by-room (ltb (length r
         record { run = t .run; count = t .count; gives = rw (f, is); leaves = rw (f, is) }
 
     by-room : (t : Bool)
-        → framesOf (marksFrom (l .run) (eventsOf (piece bytes reply packet) (asLeft names (cond t (shortStep l reply packet) (pieceStep l (taken (l .run) bytes 0) reply packet) .given))))
+        → framesOf (marksFrom (l .line .run) (eventsOf (piece bytes reply packet) (asLeft names (cond t (shortStep l reply packet) (pieceStep l (taken (l .line .run) bytes 0) reply packet) .given))))
         ≡ frames.good sequence payload ∷ []
-        → ClosedBy l reply packet sequence payload (cond t (shortStep l reply packet) (pieceStep l (taken (l .run) bytes 0) reply packet))
+        → ClosedBy l reply packet sequence payload (cond t (shortStep l reply packet) (pieceStep l (taken (l .line .run) bytes 0) reply packet))
     by-room true e = impossible cc
     by-room false e =
-        let t = taken (l .run) bytes 0 in
+        let t = taken (l .line .run) bytes 0 in
         let all : t .count - 0 ≡ t .count = omega arith in
         by-frame t (t .frame) refl (sym (rw all at (piece-same bytes l 0 .frames)) ∙ e)
 
@@ -79,12 +79,12 @@ other-new (some before) sequence other = rw (ne-eqb sequence before (λ e. other
 
 -- what a call with room closed is what its part of the history closes
 pub closes-here : (names : List (List ℕ)) (cs : List Call) (left : List Left) (end : Display) → Agreeing names cs left end
-    → (bytes : List ℕ) (count : ℕ) (f : Frame) → count ≡ taken (after (start names) cs .run) bytes 0 .count
-    → closedFrames (taken (after (start names) cs .run) bytes 0 .frame) ≡ f ∷ [] → Closes (history cs left) (map byte (take count bytes)) f
+    → (bytes : List ℕ) (count : ℕ) (f : Frame) → count ≡ taken (after (start names) cs .line .run) bytes 0 .count
+    → closedFrames (taken (after (start names) cs .line .run) bytes 0 .frame) ≡ f ∷ [] → Closes (history cs left) (map byte (take count bytes)) f
 closes-here names cs left end a bytes count f counted is =
     let l = after (start names) cs in
-    let all : count ≡ taken (l .run) bytes 0 .count - 0 = omega arith in
-    let run-is = ap (λ (m : Ledger). m .run) (after-by names cs left (a .all .gives)) in
-    let here : framesOf (marksFrom (l .run) (map byte (take count bytes))) ≡ f ∷ [] = rw all (piece-same bytes l 0 .frames ∙ is) in
+    let all : count ≡ taken (l .line .run) bytes 0 .count - 0 = omega arith in
+    let run-is = ap (λ (m : Ledger). m .line .run) (after-by names cs left (a .all .gives)) in
+    let here : framesOf (marksFrom (l .line .run) (map byte (take count bytes))) ≡ f ∷ [] = rw all (piece-same bytes l 0 .frames ∙ is) in
     frames-append (start names) (history cs left) (map byte (take count bytes))
     ∙ ap (λ (fs : List Frame). framesIn (history cs left) ++ fs) (rw run-is at here)

@@ -30,9 +30,9 @@ pub record IsLedgers (w : WatchList) (cs : List Call) (left : List Left) (end : 
   -- the answers and the bytes left in the buffers, call by call
   pub answers : left ≡ map (asLeft names) (given (start names) cs)
   -- each count modulo 65,536
-  pub counts : end .link .counts ≡ asCounts (after (start names) cs .counts)
+  pub counts : end .link .counts ≡ asCounts (after (start names) cs .line .counts)
   -- the board, with all its rows, is the one that shows the ledger's entries
-  pub board : end .board ≡ boardShowing (map asEntry (after (start names) cs .entries))
+  pub board : end .board ≡ boardShowing (map asEntry (after (start names) cs .hives .entries))
 
 fresh-shown : (names : List (List ℕ)) → map freshEntry names ≡ map asEntry (map unheard names)
 fresh-shown [] = refl

@@ -81,23 +81,23 @@ pub record Effects (names : List (List ℕ)) (w : Walk) (result : Received) (rep
   pub counted : result .taken ≡ w .taken
   pub content-is : result .display .link .content ≡ w .content
   pub reader-is : result .display .link .reader ≡ w .reader
-  pub last-is : result .display .link .last ≡ asLast (e .ledger .sequence)
-  pub counts-are : result .display .link .counts ≡ asCounts (e .ledger .counts)
-  pub shows : Shows names (e .ledger .entries) (result .display .board)
+  pub last-is : result .display .link .last ≡ asLast (e .ledger .line .sequence)
+  pub counts-are : result .display .link .counts ≡ asCounts (e .ledger .line .counts)
+  pub shows : Shows names (e .ledger .hives .entries) (result .display .board)
 
-module _ (names : List (List ℕ)) (fit : Fits names) (w : Walk) (l : Ledger) (board : Board) (shows₀ : Shows names (l .entries) board) where
+module _ (names : List (List ℕ)) (fit : Fits names) (w : Walk) (l : Ledger) (board : Board) (shows₀ : Shows names (l .hives .entries) board) where
   -- the names that the board watches are the ledger's
-  shown-are : map entryName (map asEntry (l .entries)) ≡ names
-  shown-are = names-shown (l .entries) ∙ shows₀ .named
+  shown-are : map entryName (map asEntry (l .hives .entries)) ≡ names
+  shown-are = names-shown (l .hives .entries) ∙ shows₀ .named
 
-  rows-have : Named (map asEntry (l .entries))
-  rows-have = rows-named (map asEntry (l .entries)) (rw shown-are fit)
+  rows-have : Named (map asEntry (l .hives .entries))
+  rows-have = rows-named (map asEntry (l .hives .entries)) (rw shown-are fit)
 
-  watched-is : watched board ≡ map nameOf (l .entries)
-  watched-is = ap watched (shows₀ .showing) ∙ showing-watched (map asEntry (l .entries)) (rw shown-are fit) ∙ names-shown (l .entries)
+  watched-is : watched board ≡ map nameOf (l .hives .entries)
+  watched-is = ap watched (shows₀ .showing) ∙ showing-watched (map asEntry (l .hives .entries)) (rw shown-are fit) ∙ names-shown (l .hives .entries)
 
   abbrev outcome : Frame → Outcome
-  outcome f = linkOutcome f (asLast (l .sequence)) (asCounts (l .counts))
+  outcome f = linkOutcome f (asLast (l .line .sequence)) (asCounts (l .line .counts))
 
   abbrev resultFor : Outcome → Received
   resultFor o = resultOf (o .answer) board (callOf w o)
@@ -107,8 +107,8 @@ module _ (names : List (List ℕ)) (fit : Fits names) (w : Walk) (l : Ledger) (b
 
   -- a call that leaves the board as it was
   kept-agrees : (o : Outcome) (e : Effect) (said : display-answer.Answer) → resultFor o ≡ keepBoard (received (callOf w o)) board said
-      → said ≡ asAnswer names (e .answer) → o .reply ≡ e .reply → o .packet ≡ e .packet → o .last ≡ asLast (e .ledger .sequence)
-      → o .counts ≡ asCounts (e .ledger .counts) → e .ledger .entries ≡ l .entries → Agreed o e
+      → said ≡ asAnswer names (e .answer) → o .reply ≡ e .reply → o .packet ≡ e .packet → o .last ≡ asLast (e .ledger .line .sequence)
+      → o .counts ≡ asCounts (e .ledger .line .counts) → e .ledger .hives .entries ≡ l .hives .entries → Agreed o e
   kept-agrees o e said is answer reply packet last counts same =
       rw is
       (record {
@@ -124,20 +124,20 @@ module _ (names : List (List ℕ)) (fit : Fits names) (w : Walk) (l : Ledger) (b
       })
 
   refused-agrees : (n : ℕ) → Agreed (outcome (frames.refused n)) (closed l (frames.refused n))
-  refused-agrees n = kept-agrees (outcome (frames.refused n)) _ (says.Refused n) refl refl refl refl refl (count-refused (l .counts) n) refl
+  refused-agrees n = kept-agrees (outcome (frames.refused n)) _ (says.Refused n) refl refl refl refl refl (count-refused (l .line .counts) n) refl
 
   heard-agrees : (sequence : ℕ) → Agreed (outcome (frames.acknowledgement sequence)) (closed l (frames.acknowledgement sequence))
-  heard-agrees sequence = kept-agrees (outcome (frames.acknowledgement sequence)) _ (says.Heard sequence) refl refl refl refl refl (count-heard (l .counts)) refl
+  heard-agrees sequence = kept-agrees (outcome (frames.acknowledgement sequence)) _ (says.Heard sequence) refl refl refl refl refl (count-heard (l .line .counts)) refl
 
-  again-agrees : (sequence : ℕ) → Agreed (againFrame sequence (asLast (l .sequence)) (asCounts (l .counts))) (calls.repeatedFrame l sequence)
+  again-agrees : (sequence : ℕ) → Agreed (againFrame sequence (asLast (l .line .sequence)) (asCounts (l .line .counts))) (calls.repeatedFrame l sequence)
   unfolding acknowledgement
   again-agrees sequence =
-      kept-agrees (againFrame sequence (asLast (l .sequence)) (asCounts (l .counts))) _ (says.Again (length (acknowledgement sequence))) refl refl refl refl refl (count-again (l .counts)) refl
+      kept-agrees (againFrame sequence (asLast (l .line .sequence)) (asCounts (l .line .counts))) _ (says.Again (length (acknowledgement sequence))) refl refl refl refl refl (count-again (l .line .counts)) refl
 
   -- a new packet, by what the board reads in it
   module _ (sequence : ℕ) (payload : List ℕ) where
     abbrev fresh : Outcome
-    fresh = newFrame sequence payload (asCounts (l .counts))
+    fresh = newFrame sequence payload (asCounts (l .line .counts))
 
     abbrev effectBy : Verdict → Effect
     effectBy v =
@@ -155,8 +155,8 @@ module _ (names : List (List ℕ)) (fit : Fits names) (w : Walk) (l : Ledger) (b
     -- one that has been read, by the link's state that it leaves
     read-agrees : (r : declared-reading.Reading) (v : Verdict) (state : Link) → countReading (callOf w fresh .link) (r .answer) ≡ state
         → r .answer ≡ asReading names v → state .content ≡ w .content → state .reader ≡ w .reader
-        → state .last ≡ asLast (effectBy v .ledger .sequence) → state .counts ≡ asCounts (effectBy v .ledger .counts)
-        → Shows names (effectBy v .ledger .entries) (r .board) → AgreedBy r v
+        → state .last ≡ asLast (effectBy v .ledger .line .sequence) → state .counts ≡ asCounts (effectBy v .ledger .line .counts)
+        → Shows names (effectBy v .ledger .hives .entries) (r .board) → AgreedBy r v
     unfolding acknowledgement
     read-agrees r v state leaves answer of-content of-reader of-last of-counts shows₁ =
         rw (leaves, answer)
@@ -175,54 +175,54 @@ module _ (names : List (List ℕ)) (fit : Fits names) (w : Walk) (l : Ledger) (b
     unread-agrees : (n : ℕ) → AgreedBy (record { board = board; answer = board-says.Refused n }) (reading.refused n)
     unread-agrees n =
         read-agrees _ (reading.refused n) (withUnreadPacket (callOf w fresh .link)) refl refl refl refl refl
-        (ap (countOf event.Unread) (count-new (l .counts)) ∙ count-unread (afterNew l sequence .counts)) shows₀
+        (ap (countOf event.Unread) (count-new (l .line .counts)) ∙ count-unread (afterNew l sequence .line .counts)) shows₀
 
-    end-agrees : AgreedBy (record { board = board; answer = board-says.EndMark }) reading.endMark
-    end-agrees = read-agrees _ reading.endMark (callOf w fresh .link) refl refl refl refl refl (count-new (l .counts)) shows₀
+    end-agrees : (id : ℕ) → AgreedBy (record { board = board; answer = board-says.EndMark id }) (reading.endMark id)
+    end-agrees id = read-agrees _ (reading.endMark id) (callOf w fresh .link) refl refl refl refl refl (count-new (l .line .counts)) shows₀
 
     -- the row of an update is its name's place in the watch list
     place-is : (name : List ℕ) → (t : There board name) → placeOf name names ≡ some (t .place)
     place-is name t =
-        let es = map asEntry (l .entries) in
+        let es = map asEntry (l .hives .entries) in
         let in-rows : rowNames board ≡ names ++ replicate (rowCount - length es) [] =
         ap rowNames (shows₀ .showing) ∙ showing-names es rows-have ∙ ap (λ (ns : List (List ℕ)). ns ++ replicate (rowCount - length es) []) shown-are in
         sym (place-listed name names (rowCount - length es) 0 (t .named)) ∙ ap (placeOf name) (sym in-rows) ∙ t .stands
 
-    update-agrees : (name : List ℕ) (value : ℤ) (t : There board name)
-        → AgreedBy (record { board = updateBoard (t .place) value board; answer = board-says.Updated (t .place) }) (reading.update name value)
-    update-agrees name value t =
-        let here = ap asUpdated (place-is name t) in
+    update-agrees : (id : ℕ) (name : List ℕ) (value : ℤ) (t : There board name)
+        → AgreedBy (record { board = updateBoard (t .place) value board; answer = board-says.Updated (t .place) id }) (reading.update id name value)
+    update-agrees id name value t =
+        let here = ap (asUpdated id) (place-is name t) in
         let stands = ap (λ (b : Board). placeOf name (rowNames b)) (sym (shows₀ .showing)) ∙ t .stands in
-        read-agrees _ (reading.update name value) (callOf w fresh .link) refl (sym here) refl refl refl (count-new (l .counts))
+        read-agrees _ (reading.update id name value) (callOf w fresh .link) refl (sym here) refl refl refl (count-new (l .line .counts))
         (record {
           showing =
               ap (updateBoard (t .place) value) (shows₀ .showing)
-              ∙ update-showing (map asEntry (l .entries)) name (t .place) value rows-have (t .named) stands
-              ∙ ap boardShowing (entries-updated name value (l .entries));
-          named = names-updated name value (l .entries) ∙ shows₀ .named;
+              ∙ update-showing (map asEntry (l .hives .entries)) name (t .place) value rows-have (t .named) stands
+              ∙ ap boardShowing (entries-updated name value (l .hives .entries));
+          named = names-updated name value (l .hives .entries) ∙ shows₀ .named;
         })
 
     new-agrees : Agreed fresh (calls.newFrame l sequence payload)
-    new-agrees = by-verdict (readingOf (map nameOf (l .entries)) payload) refl
+    new-agrees = by-verdict (readingOf (map nameOf (l .hives .entries)) payload) refl
       where
-        by-row : (name : List ℕ) (value : ℤ) (t : There board name) → readingOf (watched board) payload ≡ reading.update name value
-            → readingOf (map nameOf (l .entries)) payload ≡ reading.update name value → Agreed fresh (calls.newFrame l sequence payload)
-        by-row name value t watching e =
-            rw (read-update board payload name value (t .place) watching (t .stands), e) (update-agrees name value t)
+        by-row : (id : ℕ) (name : List ℕ) (value : ℤ) (t : There board name) → readingOf (watched board) payload ≡ reading.update id name value
+            → readingOf (map nameOf (l .hives .entries)) payload ≡ reading.update id name value → Agreed fresh (calls.newFrame l sequence payload)
+        by-row id name value t watching e =
+            rw (read-update board payload id name value (t .place) watching (t .stands), e) (update-agrees id name value t)
 
-        by-verdict : (v : Verdict) → readingOf (map nameOf (l .entries)) payload ≡ v → Agreed fresh (calls.newFrame l sequence payload)
+        by-verdict : (v : Verdict) → readingOf (map nameOf (l .hives .entries)) payload ≡ v → Agreed fresh (calls.newFrame l sequence payload)
         by-verdict (reading.refused n) e =
             let watching = ap (λ (ns : List (List ℕ)). readingOf ns payload) watched-is ∙ e in
             rw (read-refused board payload n watching, e) (unread-agrees n)
-        by-verdict reading.endMark e =
+        by-verdict (reading.endMark id) e =
             let watching = ap (λ (ns : List (List ℕ)). readingOf ns payload) watched-is ∙ e in
-            rw (read-end board payload watching, e) end-agrees
-        by-verdict (reading.update name value) e =
+            rw (read-end board payload id watching, e) (end-agrees id)
+        by-verdict (reading.update id name value) e =
             let watching = ap (λ (ns : List (List ℕ)). readingOf ns payload) watched-is ∙ e in
-            by-row name value (update-there board payload name value watching) watching e
+            by-row id name value (update-there board payload id name value watching) watching e
 
     -- so what the board makes of the packet is what the ledger makes of it
-    pub read-shown : readBoard board payload .board ≡ boardShowing (map asEntry (calls.newFrame l sequence payload .ledger .entries))
+    pub read-shown : readBoard board payload .board ≡ boardShowing (map asEntry (calls.newFrame l sequence payload .ledger .hives .entries))
     read-shown = new-agrees .shows .showing
 
     pub read-answered : readBoard board payload .answer ≡ asReading names (calls.readingBy l payload)
@@ -238,17 +238,17 @@ module _ (names : List (List ℕ)) (fit : Fits names) (w : Walk) (l : Ledger) (b
   frame-agrees (frames.refused n) = refused-agrees n
   frame-agrees (frames.acknowledgement sequence) = heard-agrees sequence
   frame-agrees (frames.good sequence payload) =
-      rw (same-repeats (l .sequence) sequence) (by-last (repeated (l .sequence) sequence))
+      rw (same-repeats (l .line .sequence) sequence) (by-last (repeated (l .line .sequence) sequence))
     where
       by-last : (t : Bool)
-          → Agreed (cond t (againFrame sequence (asLast (l .sequence)) (asCounts (l .counts))) (newFrame sequence payload (asCounts (l .counts))))
+          → Agreed (cond t (againFrame sequence (asLast (l .line .sequence)) (asCounts (l .line .counts))) (newFrame sequence payload (asCounts (l .line .counts))))
           (cond t (calls.repeatedFrame l sequence) (calls.newFrame l sequence payload))
       by-last true = again-agrees sequence
       by-last false = new-agrees sequence payload
 
   -- a call that closed none
   abbrev nothingDone : Outcome
-  nothingDone = record { last = asLast (l .sequence); counts = asCounts (l .counts); answer = link-says.Nothing; reply = []; packet = [] }
+  nothingDone = record { last = asLast (l .line .sequence); counts = asCounts (l .line .counts); answer = link-says.Nothing; reply = []; packet = [] }
 
   pub nothing-agrees : (o : Outcome) → o ≡ nothingDone
       → Agreed o (record { ledger = l; answer = answers.nothing; reply = []; packet = [] })

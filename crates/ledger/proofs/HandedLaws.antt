@@ -67,7 +67,7 @@ module _ (names : List (List ℕ)) (l : Ledger) (reply packet : List ℕ) (reply
   reply-stands sequence = let fits = acknowledgement-fits sequence in put-first reply (answerTo sequence) (omega (arith, fits))
 
   good-handed : (sequence : ℕ) (payload : List ℕ) → length payload ≤ 383 → Handed-out (closed l (frames.good sequence payload))
-  good-handed sequence payload few = by-last (repeated (l .sequence) sequence)
+  good-handed sequence payload few = by-last (repeated (l .line .sequence) sequence)
     where
       by-last : (t : Bool) → Handed-out (cond t (calls.repeatedFrame l sequence) (calls.newFrame l sequence payload))
       by-last true = ap (λ (r : List ℕ). record { reply = r; packet = none } ∷ []) (reply-stands sequence)
@@ -89,11 +89,11 @@ unfolding step
 step-handed names l (answers.piece bytes reply packet) = by-room (ltb (length reply) 9) (ltb (length packet) 383) refl refl
   where
     by-room : (t u : Bool) → ltb (length reply) 9 ≡ t → ltb (length packet) 383 ≡ u
-        → handedLeft (asLeft names (cond (t || u) (shortStep l reply packet) (pieceStep l (taken (l .run) bytes 0) reply packet) .given))
-        ≡ handedIn (cond (t || u) (shortStep l reply packet) (pieceStep l (taken (l .run) bytes 0) reply packet) .given)
+        → handedLeft (asLeft names (cond (t || u) (shortStep l reply packet) (pieceStep l (taken (l .line .run) bytes 0) reply packet) .given))
+        ≡ handedIn (cond (t || u) (shortStep l reply packet) (pieceStep l (taken (l .line .run) bytes 0) reply packet) .given)
     by-room true u e f = refl
     by-room false true e f = refl
     by-room false false e f =
-        let t = taken (l .run) bytes 0 in
+        let t = taken (l .line .run) bytes 0 in
         effect-handed names (withRun l (t .run)) reply packet (ltb-false (length reply) 9 e) (ltb-false (length packet) 383 f) (t .frame)
 step-handed names l answers.tick = refl

@@ -45,37 +45,37 @@ told-up xs ys = ap packetsHanded (handed-append xs ys) ∙ up-append (handedWith
 
 -- a frame that was closed
 frame-up : (l : Ledger) (f : Frame) (rest : Option ℕ → List BoardEvent)
-    → packetsIn (behindFrame f (l .sequence) rest) ≡ toldUp (toldBy (closed l f .answer)) ++ packetsIn (rest (closed l f .ledger .sequence))
+    → packetsIn (behindFrame f (l .line .sequence) rest) ≡ toldUp (toldBy (closed l f .answer)) ++ packetsIn (rest (closed l f .ledger .line .sequence))
 unfolding packetsIn handedWith packetsHanded
 frame-up l (frames.refused n) rest = by-number (eqb n shortOutput)
   where
-    by-number : (t : Bool) → packetsIn (rest (l .sequence)) ≡ toldUp (cond t [] (answers.refused n ∷ [])) ++ packetsIn (rest (l .sequence))
+    by-number : (t : Bool) → packetsIn (rest (l .line .sequence)) ≡ toldUp (cond t [] (answers.refused n ∷ [])) ++ packetsIn (rest (l .line .sequence))
     by-number true = refl
     by-number false = refl
 frame-up l (frames.acknowledgement sequence) rest = refl
-frame-up l (frames.good sequence payload) rest = by-last (repeated (l .sequence) sequence) refl
+frame-up l (frames.good sequence payload) rest = by-last (repeated (l .line .sequence) sequence) refl
   where
-    by-last : (t : Bool) → repeated (l .sequence) sequence ≡ t
-        → packetsIn (behindFrame (frames.good sequence payload) (l .sequence) rest)
-        ≡ toldUp (toldBy (closed l (frames.good sequence payload) .answer)) ++ packetsIn (rest (closed l (frames.good sequence payload) .ledger .sequence))
-    by-last true e = rw e (ap (λ (o : Option ℕ). packetsIn (rest o)) (sym (repeats-last (l .sequence) sequence e)))
+    by-last : (t : Bool) → repeated (l .line .sequence) sequence ≡ t
+        → packetsIn (behindFrame (frames.good sequence payload) (l .line .sequence) rest)
+        ≡ toldUp (toldBy (closed l (frames.good sequence payload) .answer)) ++ packetsIn (rest (closed l (frames.good sequence payload) .ledger .line .sequence))
+    by-last true e = rw e (ap (λ (o : Option ℕ). packetsIn (rest o)) (sym (repeats-last (l .line .sequence) sequence e)))
     by-last false e =
         rw e (ap (λ (o : Option ℕ). payload ∷ packetsIn (rest o)) (sym (read-sequence l sequence (calls.readingBy l payload))))
 
-history-up : (l : Ledger) (es : List Event) → packetsIn (boardEventsOf (l .sequence) (marksFrom (l .run) es)) ≡ toldUp (toldInHistory l es)
+history-up : (l : Ledger) (es : List Event) → packetsIn (boardEventsOf (l .line .sequence) (marksFrom (l .line .run) es)) ≡ toldUp (toldInHistory l es)
 unfolding marksFrom boardEventsOf packetsIn toldInHistory handedWith packetsHanded
 history-up l [] = refl
 history-up l (minute ∷ es) = history-up (happens l minute .ledger) es
-history-up l (byte b ∷ es) = by-turn (turn (l .run) b) (λ m. history-up m es)
+history-up l (byte b ∷ es) = by-turn (turn (l .line .run) b) (λ m. history-up m es)
   where
-    by-turn : (t : Turn) → ((m : Ledger) → packetsIn (boardEventsOf (m .sequence) (marksFrom (m .run) es)) ≡ toldUp (toldInHistory m es))
-        → packetsIn (boardEventsOf (l .sequence) (behindTurn t (λ run. marksFrom run es)))
+    by-turn : (t : Turn) → ((m : Ledger) → packetsIn (boardEventsOf (m .line .sequence) (marksFrom (m .line .run) es)) ≡ toldUp (toldInHistory m es))
+        → packetsIn (boardEventsOf (l .line .sequence) (behindTurn t (λ run. marksFrom run es)))
         ≡ toldUp (atTurn l t .told ++ toldInHistory (atTurn l t .ledger) es)
     by-turn (goes-on run) rest = rest (withRun l run)
     by-turn (closes run) rest =
         let here = withRun l (some []) in
         let m = closed here (frameOf run) .ledger in
-        let empty : m .run ≡ some [] = run-kept here (frameOf run) in
+        let empty : m .line .run ≡ some [] = run-kept here (frameOf run) in
         frame-up here (frameOf run) (λ last. boardEventsOf last (marksFrom (some []) es))
         ∙ ap (λ (ps : List (List ℕ)). toldUp (toldBy (closed here (frameOf run) .answer)) ++ ps) (rw empty at (rest m))
         ∙ sym (told-up (toldBy (closed here (frameOf run) .answer)) (toldInHistory m es))

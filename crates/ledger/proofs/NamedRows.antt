@@ -39,7 +39,7 @@ board-after names cs left end a =
     let events = history cs left in
     let followed = history-followed names (start names) events (fresh-named names) (a .good .once) in
     a .all .agrees .shows .showing
-    ∙ ap (λ (l : Ledger). boardShowing (map asEntry (l .entries))) (after-by names cs left (a .all .gives))
+    ∙ ap (λ (l : Ledger). boardShowing (map asEntry (l .hives .entries))) (after-by names cs left (a .all .gives))
     ∙ ap (λ (es : List Entry). boardShowing (map asEntry es)) followed
     ∙ ap boardShowing (rows-after names names (boardEventsIn events))
 

@@ -67,10 +67,10 @@ short-buffer d d₁ bytes reply packet left (receives {reply₁ = reply₁} {pac
 refused-stays : (board : Board) (v : Verdict) (k : ℕ) → applied board v .answer ≡ board-says.Refused k → applied board v .board ≡ board
 unfolding applied updated
 refused-stays board (reading.refused m) k e = refl
-refused-stays board reading.endMark k e = refl
-refused-stays board (reading.update name value) k e = by-place (placeOf name (rowNames board)) e
+refused-stays board (reading.endMark id) k e = refl
+refused-stays board (reading.update id name value) k e = by-place (placeOf name (rowNames board)) e
   where
-    by-place : (o : Option ℕ) → updated board value o .answer ≡ board-says.Refused k → updated board value o .board ≡ board
+    by-place : (o : Option ℕ) → updated board id value o .answer ≡ board-says.Refused k → updated board id value o .board ≡ board
     by-place (some place) e = impossible cc
     by-place none e = refl
 
@@ -78,12 +78,12 @@ refused-stays board (reading.update name value) k e = by-place (placeOf name (ro
 record NewFound (l : Ledger) (bytes : List ℕ) (count : ℕ) : Type 0 where
   sequence : ℕ
   payload : List ℕ
-  counted : count ≡ taken (l .run) bytes 0 .count
-  closes : closedFrames (taken (l .run) bytes 0 .frame) ≡ frames.good sequence payload ∷ []
+  counted : count ≡ taken (l .line .run) bytes 0 .count
+  closes : closedFrames (taken (l .line .run) bytes 0 .frame) ≡ frames.good sequence payload ∷ []
 
 module _ (names : List (List ℕ)) (l : Ledger) (bytes reply packet : List ℕ) (count m size : ℕ) (answer : board-answer.Answer) (reply₁ packet₁ : List ℕ) where
   abbrev t : Taken
-  t = taken (l .run) bytes 0
+  t = taken (l .line .run) bytes 0
 
   frame-found : (run : List ℕ) → t .frame ≡ some run → count ≡ t .count → (f : Frame) → frameOf run ≡ f
       → New m size answer ≡ asAnswer names (closed (withRun l (t .run)) f .answer) → NewFound l bytes count
@@ -132,7 +132,7 @@ pub refused-packet : (names : List (List ℕ)) (w : WatchList) → namesIn w ≡
     → Chain end (piece bytes reply packet ∷ []) (took count (New m size (board-says.Refused k)) reply₁ packet₁ ∷ []) end₁
     → Unread (history cs left) (map byte (take count bytes)) reply packet end reply₁ packet₁ end₁
 refused-packet names w listed d begins cs left end chain bytes reply packet count m size k reply₁ packet₁ end₁ next =
-    by-last (repeated (l .sequence) (found .sequence)) refl
+    by-last (repeated (l .line .sequence) (found .sequence)) refl
   where
     l : Ledger
     l = after (start names) cs
@@ -151,7 +151,7 @@ refused-packet names w listed d begins cs left end chain bytes reply packet coun
     closes : Closes (history cs left) (map byte (take count bytes)) (frames.good (found .sequence) (found .payload))
     closes = closes-here names cs left end a bytes count (frames.good (found .sequence) (found .payload)) (found .counted) (found .closes)
 
-    by-last : (t : Bool) → repeated (l .sequence) (found .sequence) ≡ t → Unread (history cs left) (map byte (take count bytes)) reply packet end reply₁ packet₁ end₁
+    by-last : (t : Bool) → repeated (l .line .sequence) (found .sequence) ≡ t → Unread (history cs left) (map byte (take count bytes)) reply packet end reply₁ packet₁ end₁
     by-last true e =
         let said = dropped names cs left end a bytes reply packet more end₁ next (found .sequence) (found .payload) closes e .answers in
         impossible cc

@@ -65,15 +65,15 @@ record Kept (l : Ledger) (n : ℕ) (frame : Option (List ℕ)) : Type 0 where
   closes : closedFrames frame ≡ frames.refused n ∷ []
   reply : effectOf l frame .reply ≡ []
   packet : effectOf l frame .packet ≡ []
-  entries : effectOf l frame .ledger .entries ≡ l .entries
-  counts : effectOf l frame .ledger .counts ≡ plusRefused n (l .counts)
-  sequence : effectOf l frame .ledger .sequence ≡ l .sequence
+  entries : effectOf l frame .ledger .hives .entries ≡ l .hives .entries
+  counts : effectOf l frame .ledger .line .counts ≡ plusRefused n (l .line .counts)
+  sequence : effectOf l frame .ledger .line .sequence ≡ l .line .sequence
 
 module _ (names : List (List ℕ)) (n : ℕ) (l : Ledger) where
   frame-refused : (f : Frame) → asAnswer names (closed l f .answer) ≡ Refused n → f ≡ frames.refused n
   frame-refused (frames.refused k) e = let same : k ≡ n = cc in ap frames.refused same
   frame-refused (frames.acknowledgement sequence) e = impossible cc
-  frame-refused (frames.good sequence payload) e = by-last (repeated (l .sequence) sequence) e
+  frame-refused (frames.good sequence payload) e = by-last (repeated (l .line .sequence) sequence) e
     where
       by-last : (t : Bool) → asAnswer names (cond t (calls.repeatedFrame l sequence) (calls.newFrame l sequence payload) .answer) ≡ Refused n
           → frames.good sequence payload ≡ frames.refused n
@@ -106,7 +106,7 @@ pub record OffTheLine (n : ℕ) (events further : List Event) (reply packet : Li
   pub counts : behind .link .counts ≡ countOf (event.Refused n) (before .link .counts)
 
 with-room : (l : Ledger) (bytes reply packet : List ℕ) → 9 ≤ length reply → 383 ≤ length packet
-    → step l (piece bytes reply packet) ≡ pieceStep l (taken (l .run) bytes 0) reply packet
+    → step l (piece bytes reply packet) ≡ pieceStep l (taken (l .line .run) bytes 0) reply packet
 unfolding step
 with-room l bytes reply packet r p = rw (le-ltb (length reply) 9 r, le-ltb (length packet) 383 p)
 
@@ -117,7 +117,7 @@ module _ (names : List (List ℕ)) (cs : List Call) (left : List Left) (end : Di
   l = after (start names) cs
 
   abbrev t : Taken
-  t = taken (l .run) bytes 0
+  t = taken (l .line .run) bytes 0
 
   abbrev effect : Effect
   effect = effectOf (withRun l (t .run)) (t .frame)
@@ -155,16 +155,16 @@ module _ (names : List (List ℕ)) (cs : List Call) (left : List Left) (end : Di
         packet-kept = handed ∙ ap (putAt packet 0) (kept .packet);
         board-kept =
             one .agrees .shows .showing
-            ∙ ap (λ (m : Ledger). boardShowing (map asEntry (m .entries))) ledger-is
+            ∙ ap (λ (m : Ledger). boardShowing (map asEntry (m .hives .entries))) ledger-is
             ∙ rw (kept .entries) (sym (a .all .agrees .shows .showing));
         last-kept =
             one .agrees .last-is
-            ∙ ap (λ (m : Ledger). asLast (m .sequence)) ledger-is
+            ∙ ap (λ (m : Ledger). asLast (m .line .sequence)) ledger-is
             ∙ rw (kept .sequence) (sym (a .all .agrees .last-is));
         counts =
             one .agrees .counts-are
-            ∙ ap (λ (m : Ledger). asCounts (m .counts)) ledger-is
-            ∙ rw (kept .counts) (sym (ap (countOf (event.Refused n)) (a .all .agrees .counts-are) ∙ count-refused (l .counts) n));
+            ∙ ap (λ (m : Ledger). asCounts (m .line .counts)) ledger-is
+            ∙ rw (kept .counts) (sym (ap (countOf (event.Refused n)) (a .all .agrees .counts-are) ∙ count-refused (l .line .counts) n));
       }
 
 -- THEOREM. After every list of calls: where the next call has room and is answered by a refusal, it is a frame's, from 1 to 6. The frame is off

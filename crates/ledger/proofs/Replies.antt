@@ -52,7 +52,7 @@ frame-replied l (frames.refused n) fs = by-number (eqb n shortOutput)
     by-number true = refl
     by-number false = refl
 frame-replied l (frames.acknowledgement sequence) fs = refl
-frame-replied l (frames.good sequence payload) fs = by-last (repeated (l .sequence) sequence)
+frame-replied l (frames.good sequence payload) fs = by-last (repeated (l .line .sequence) sequence)
   where
     by-last : (t : Bool)
         → answerTo sequence ∷ map answerTo (dataSequences fs)
@@ -60,19 +60,19 @@ frame-replied l (frames.good sequence payload) fs = by-last (repeated (l .sequen
     by-last true = refl
     by-last false = refl
 
-history-replied : (l : Ledger) (es : List Event) → map answerTo (dataSequences (framesOf (marksFrom (l .run) es))) ≡ repliesTold (toldInHistory l es)
+history-replied : (l : Ledger) (es : List Event) → map answerTo (dataSequences (framesOf (marksFrom (l .line .run) es))) ≡ repliesTold (toldInHistory l es)
 unfolding marksFrom framesOf dataSequences toldInHistory handedWith
 history-replied l [] = refl
 history-replied l (minute ∷ es) = history-replied (happens l minute .ledger) es
-history-replied l (byte b ∷ es) = by-turn (turn (l .run) b) (λ m. history-replied m es)
+history-replied l (byte b ∷ es) = by-turn (turn (l .line .run) b) (λ m. history-replied m es)
   where
-    by-turn : (t : Turn) → ((m : Ledger) → map answerTo (dataSequences (framesOf (marksFrom (m .run) es))) ≡ repliesTold (toldInHistory m es))
+    by-turn : (t : Turn) → ((m : Ledger) → map answerTo (dataSequences (framesOf (marksFrom (m .line .run) es))) ≡ repliesTold (toldInHistory m es))
         → map answerTo (dataSequences (framesOf (behindTurn t (λ run. marksFrom run es)))) ≡ repliesTold (atTurn l t .told ++ toldInHistory (atTurn l t .ledger) es)
     by-turn (goes-on run) rest = rest (withRun l run)
     by-turn (closes run) rest =
         let here = withRun l (some []) in
         let m = closed here (frameOf run) .ledger in
-        let empty : m .run ≡ some [] = run-kept here (frameOf run) in
+        let empty : m .line .run ≡ some [] = run-kept here (frameOf run) in
         frame-replied here (frameOf run) (framesOf (marksFrom (some []) es))
         ∙ ap (λ (rs : List (List ℕ)). repliesTold (toldBy (closed here (frameOf run) .answer)) ++ rs) (rw empty at (rest m))
         ∙ sym (told-joined (toldBy (closed here (frameOf run) .answer)) (toldInHistory m es))

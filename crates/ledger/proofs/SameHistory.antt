@@ -79,11 +79,11 @@ module _ (names : List (List ℕ)) where
               ∙ sym (ap allHanded (two .all .gives) ∙ all-handed names (start names) cs₁);
           counts =
               one .all .agrees .counts-are
-              ∙ ap (λ (m : Ledger). asCounts (m .counts)) same-ledger
+              ∙ ap (λ (m : Ledger). asCounts (m .line .counts)) same-ledger
               ∙ sym (two .all .agrees .counts-are);
           board =
               one .all .agrees .shows .showing
-              ∙ ap (λ (m : Ledger). boardShowing (map asEntry (m .entries))) same-ledger
+              ∙ ap (λ (m : Ledger). boardShowing (map asEntry (m .hives .entries))) same-ledger
               ∙ sym (two .all .agrees .shows .showing);
           next =
               λ ds more more₁ then then₁ calls calls₁.
@@ -93,11 +93,11 @@ module _ (names : List (List ℕ)) where
                 answered = here .gives ∙ ap (λ (m : Ledger). map (asLeft names) (given m ds)) same-ledger ∙ sym (there .gives);
                 counts =
                     here .agrees .counts-are
-                    ∙ ap (λ (m : Ledger). asCounts (after m ds .counts)) same-ledger
+                    ∙ ap (λ (m : Ledger). asCounts (after m ds .line .counts)) same-ledger
                     ∙ sym (there .agrees .counts-are);
                 board =
                     here .agrees .shows .showing
-                    ∙ ap (λ (m : Ledger). boardShowing (map asEntry (after m ds .entries))) same-ledger
+                    ∙ ap (λ (m : Ledger). boardShowing (map asEntry (after m ds .hives .entries))) same-ledger
                     ∙ sym (there .agrees .shows .showing);
               };
         }

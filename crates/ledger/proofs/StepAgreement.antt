@@ -46,27 +46,27 @@ use Rattle.ledger.proofs.FrameAgreement.{asLast, read-by-type, Shows, E
 -- display and ledger agree
 pub record Agrees (names : List (List ℕ)) (l : Ledger) (d : Display) : Type 0 where
   pub ours : Ours (d .link)
-  pub standing : Standing (l .run) (d .link .content) (d .link .reader)
-  pub last-is : d .link .last ≡ asLast (l .sequence)
-  pub counts-are : d .link .counts ≡ asCounts (l .counts)
-  pub shows : Shows names (l .entries) (d .board)
+  pub standing : Standing (l .line .run) (d .link .content) (d .link .reader)
+  pub last-is : d .link .last ≡ asLast (l .line .sequence)
+  pub counts-are : d .link .counts ≡ asCounts (l .line .counts)
+  pub shows : Shows names (l .hives .entries) (d .board)
 
 -- a frame leaves the run alone
-read-run-kept : (l : Ledger) (v : Verdict) → afterReading l v .run ≡ l .run
+read-run-kept : (l : Ledger) (v : Verdict) → afterReading l v .line .run ≡ l .line .run
 read-run-kept l (reading.refused n) = refl
-read-run-kept l reading.endMark = refl
-read-run-kept l (reading.update name value) = refl
+read-run-kept l (reading.endMark id) = refl
+read-run-kept l (reading.update id name value) = refl
 
-pub run-kept : (l : Ledger) (f : Frame) → closed l f .ledger .run ≡ l .run
+pub run-kept : (l : Ledger) (f : Frame) → closed l f .ledger .line .run ≡ l .line .run
 run-kept l (frames.refused n) = refl
 run-kept l (frames.acknowledgement sequence) = refl
-run-kept l (frames.good sequence payload) = cases (calls.repeated (l .sequence) sequence)
+run-kept l (frames.good sequence payload) = cases (calls.repeated (l .line .sequence) sequence)
   where
-    cases : (t : Bool) → cond t (calls.repeatedFrame l sequence) (calls.newFrame l sequence payload) .ledger .run ≡ l .run
+    cases : (t : Bool) → cond t (calls.repeatedFrame l sequence) (calls.newFrame l sequence payload) .ledger .line .run ≡ l .line .run
     cases true = refl
     cases false = read-run-kept (calls.afterNew l sequence) (calls.readingBy l payload)
 
-effect-run : (l : Ledger) (frame : Option (List ℕ)) → effectOf l frame .ledger .run ≡ l .run
+effect-run : (l : Ledger) (frame : Option (List ℕ)) → effectOf l frame .ledger .line .run ≡ l .line .run
 effect-run l none = refl
 effect-run l (some run) = run-kept l (frameOf run)
 
@@ -84,8 +84,8 @@ pub record Gives (names : List (List ℕ)) (s : calls.Step) (left : Left) (d : D
   pub agrees : Agrees names (s .ledger) d
 
 -- what the frame that a walk closed does, if it closed one
-module _ (names : List (List ℕ)) (fit : Fits names) (l : Ledger) (board : Board) (shows₀ : Shows names (l .entries) board)
-    (last : Last) (counts : link-counts.Counts) (last-is₀ : last ≡ asLast (l .sequence)) (counts-are₀ : counts ≡ asCounts (l .counts)) where
+module _ (names : List (List ℕ)) (fit : Fits names) (l : Ledger) (board : Board) (shows₀ : Shows names (l .hives .entries) board)
+    (last : Last) (counts : link-counts.Counts) (last-is₀ : last ≡ asLast (l .line .sequence)) (counts-are₀ : counts ≡ asCounts (l .line .counts)) where
   abbrev EffectsOf : Walk → Outcome → Effect → Type 0
   EffectsOf w o e = Effects names w (resultOf (o .answer) board (callOf w o)) (o .reply) (o .packet) e
 
@@ -95,12 +95,12 @@ module _ (names : List (List ℕ)) (fit : Fits names) (l : Ledger) (board : Boar
   walk-effects run none w r =
       nothing-agrees names fit w (withRun l run) board shows₀ (closeOf (w .ended) (w .content) last counts)
       (ap₂ (λ (x : Last) (y : link-counts.Counts). closeOf (w .ended) (w .content) x y) last-is₀ counts-are₀
-      ∙ ap (λ (end : Ended). closeOf end (w .content) (asLast (l .sequence)) (asCounts (l .counts))) (r .0))
+      ∙ ap (λ (end : Ended). closeOf end (w .content) (asLast (l .line .sequence)) (asCounts (l .line .counts))) (r .0))
   walk-effects run (some frame) w r =
       subst⁻¹ (λ (o : Outcome). EffectsOf w o (effectOf (withRun l run) (some frame)))
       (ap₂ (λ (x : Last) (y : link-counts.Counts). closeOf (w .ended) (w .content) x y) last-is₀ counts-are₀
-      ∙ r .1 (asLast (l .sequence)) (asCounts (l .counts))
-      ∙ read-by-type (readRun frame) (asLast (l .sequence)) (asCounts (l .counts)))
+      ∙ r .1 (asLast (l .line .sequence)) (asCounts (l .line .counts))
+      ∙ read-by-type (readRun frame) (asLast (l .line .sequence)) (asCounts (l .line .counts)))
       (frame-agrees names fit w (withRun l run) board shows₀ (frameOf frame))
 
 -- a call whose buffers have room
@@ -138,7 +138,7 @@ module _ (names : List (List ℕ)) (fit : Fits names) (l : Ledger) (d : Display)
   -- the step by the two tests of the buffers
   abbrev Stepped : Received → List ℕ → List ℕ → Bool → Bool → Type 0
   Stepped result reply₁ packet₁ t u =
-      Gives names (cond (t || u) (shortStep l reply packet) (pieceStep l (taken (l .run) bytes 0) reply packet))
+      Gives names (cond (t || u) (shortStep l reply packet) (pieceStep l (taken (l .line .run) bytes 0) reply packet))
       (took (result .taken) (result .answer) reply₁ packet₁) (result .display)
 
   pub piece-agrees : (result : Received) (reply₁ packet₁ : List ℕ)
@@ -153,8 +153,8 @@ module _ (names : List (List ℕ)) (fit : Fits names) (l : Ledger) (d : Display)
           short-agrees result reply₁ packet₁ (rw is at does)
       by-packet h false f =
           let is = room-for-both (d .link) bytes (length reply) (length packet) h (ltb-false (length packet) 383 f) in
-          long-agrees (taken (l .run) bytes 0) (walkOf bytes (d .link .content) (d .link .reader) 0)
-          (agree bytes 0 (d .link .content) (d .link .reader) (l .run) (a .ours .whole) (a .ours .within) (a .standing))
+          long-agrees (taken (l .line .run) bytes 0) (walkOf bytes (d .link .content) (d .link .reader) 0)
+          (agree bytes 0 (d .link .content) (d .link .reader) (l .line .run) (a .ours .whole) (a .ours .within) (a .standing))
           (walk-length bytes (d .link .content) (d .link .reader) 0 ∙ a .ours .whole)
           (walk-within bytes (d .link .content) (d .link .reader) 0 (a .ours .whole) (a .ours .within))
           result reply₁ packet₁ (rw is at does)
@@ -179,8 +179,8 @@ tick-agrees names l d a =
             counts-are = a .counts-are;
             shows =
                 record {
-                  showing = ap tickBoard (a .shows .showing) ∙ tick-showing (map asEntry (l .entries)) ∙ ap boardShowing (entries-older (l .entries));
-                  named = names-older (l .entries) ∙ a .shows .named;
+                  showing = ap tickBoard (a .shows .showing) ∙ tick-showing (map asEntry (l .hives .entries)) ∙ ap boardShowing (entries-older (l .hives .entries));
+                  named = names-older (l .hives .entries) ∙ a .shows .named;
                 };
           };
     }

@@ -26,15 +26,15 @@ use Rattle.ledger.specs.Answers.{Call, Given, Answer}
 use Rattle.ledger.specs.Calls as calls
 use Rattle.ledger.specs.Calls.{Effect, answerTo, repeated, closed, effectOf, withRun, pieceStep, shortStep, step, given}
 use Rattle.ledger.specs.Shown.{asAnswer, asLeft}
-use Rattle.ledger.specs.History.{Handed, handedAs, handedLeft}
+use Rattle.ledger.specs.History.{Handed, as-reply, as-packet, handedAs, handedLeft}
 
 -- what the ledger hands out with an answer
 abbrev pub handedBy : Answer → List Handed
 handedBy answers.nothing = []
 handedBy (answers.refused n) = []
 handedBy (answers.heard sequence) = []
-handedBy (answers.again sequence) = record { reply = answerTo sequence; packet = none } ∷ []
-handedBy (answers.new sequence payload verdict) = record { reply = answerTo sequence; packet = some payload } ∷ []
+handedBy (answers.again sequence) = as-reply (answerTo sequence) ∷ []
+handedBy (answers.new sequence payload verdict) = as-reply (answerTo sequence) ∷ as-packet payload ∷ []
 
 abbrev pub handedIn : Given → List Handed
 handedIn (answers.took n answer reply packet) = handedBy answer
@@ -70,9 +70,9 @@ module _ (names : List (List ℕ)) (l : Ledger) (reply packet : List ℕ) (reply
   good-handed sequence payload few = by-last (repeated (l .line .sequence) sequence)
     where
       by-last : (t : Bool) → Handed-out (cond t (calls.repeatedFrame l sequence) (calls.newFrame l sequence payload))
-      by-last true = ap (λ (r : List ℕ). record { reply = r; packet = none } ∷ []) (reply-stands sequence)
+      by-last true = ap (λ (r : List ℕ). as-reply r ∷ []) (reply-stands sequence)
       by-last false =
-          ap₂ (λ (r p : List ℕ). record { reply = r; packet = some p } ∷ []) (reply-stands sequence)
+          ap₂ (λ (r p : List ℕ). as-reply r ∷ as-packet p ∷ []) (reply-stands sequence)
           (put-first packet payload (omega arith))
 
   frame-handed : (f : Frame) → ((sequence : ℕ) (payload : List ℕ) → f ≡ frames.good sequence payload → length payload ≤ 383) → Handed-out (closed l f)

@@ -16,37 +16,27 @@ use Rattle.ledger.specs.Answers.{WatchList, namesIn, Call, Answer}
 use Rattle.ledger.specs.Calls as calls
 use Rattle.ledger.specs.Calls.{repeated, closed, withRun}
 use Rattle.ledger.specs.Shown.{Left}
-use Rattle.ledger.specs.History.{Event, byte, minute, history, Handed, withPacket, packetsHanded, allHanded}
+use Rattle.ledger.specs.History.{Event, byte, minute, history, among, packetIn, packetsHanded, allHanded}
 use Rattle.ledger.specs.ClosedFrames.{behindTurn, marksFrom}
 use Rattle.ledger.specs.BoardEvents.{BoardEvent, packet, behindFrame, boardEventsOf, boardEventsIn, packetsIn}
 use Rattle.ledger.proofs.StepAgreement.{run-kept}
 use Rattle.ledger.proofs.Chain.{Begins, Chain}
 use Rattle.ledger.proofs.EveryList.{agreeing}
 use Rattle.ledger.proofs.ByEvents.{toldBy, atTurn, happens, toldInHistory, repeats-last, read-sequence}
-use Rattle.ledger.proofs.ToldLaws.{handedWith, handed-append, all-handed}
+use Rattle.ledger.proofs.ToldLaws.{handedWith, handed-append, among-append, all-handed}
 use Rattle.ledger.proofs.SameHistory.{told-by}
-
-up-append : (xs ys : List Handed) → packetsHanded (xs ++ ys) ≡ packetsHanded xs ++ packetsHanded ys
-unfolding packetsHanded
-up-append [] ys = refl
-up-append (x ∷ xs) ys = by-packet (x .packet) (up-append xs ys)
-  where
-    by-packet : (o : Option (List ℕ)) → packetsHanded (xs ++ ys) ≡ packetsHanded xs ++ packetsHanded ys
-        → withPacket o (packetsHanded (xs ++ ys)) ≡ withPacket o (packetsHanded xs) ++ packetsHanded ys
-    by-packet none rest = rest
-    by-packet (some p) rest = ap (λ (ps : List (List ℕ)). p ∷ ps) rest
 
 -- the packets that are told of
 abbrev toldUp : List Answer → List (List ℕ)
 toldUp told = packetsHanded (handedWith told)
 
 told-up : (xs ys : List Answer) → toldUp (xs ++ ys) ≡ toldUp xs ++ toldUp ys
-told-up xs ys = ap packetsHanded (handed-append xs ys) ∙ up-append (handedWith xs) (handedWith ys)
+told-up xs ys = ap packetsHanded (handed-append xs ys) ∙ among-append packetIn (handedWith xs) (handedWith ys)
 
 -- a frame that was closed
 frame-up : (l : Ledger) (f : Frame) (rest : Option ℕ → List BoardEvent)
     → packetsIn (behindFrame f (l .line .sequence) rest) ≡ toldUp (toldBy (closed l f .answer)) ++ packetsIn (rest (closed l f .ledger .line .sequence))
-unfolding packetsIn handedWith packetsHanded
+unfolding packetsIn handedWith among
 frame-up l (frames.refused n) rest = by-number (eqb n shortOutput)
   where
     by-number : (t : Bool) → packetsIn (rest (l .line .sequence)) ≡ toldUp (cond t [] (answers.refused n ∷ [])) ++ packetsIn (rest (l .line .sequence))
@@ -63,7 +53,7 @@ frame-up l (frames.good sequence payload) rest = by-last (repeated (l .line .seq
         rw e (ap (λ (o : Option ℕ). payload ∷ packetsIn (rest o)) (sym (read-sequence l sequence (calls.readingBy l payload))))
 
 history-up : (l : Ledger) (es : List Event) → packetsIn (boardEventsOf (l .line .sequence) (marksFrom (l .line .run) es)) ≡ toldUp (toldInHistory l es)
-unfolding marksFrom boardEventsOf packetsIn toldInHistory handedWith packetsHanded
+unfolding marksFrom boardEventsOf packetsIn toldInHistory handedWith among
 history-up l [] = refl
 history-up l (minute ∷ es) = history-up (happens l minute .ledger) es
 history-up l (byte b ∷ es) = by-turn (turn (l .line .run) b) (λ m. history-up m es)

@@ -9,7 +9,7 @@ use Rattle.frame.specs.Content.{Read, frame}
 use Rattle.frame.specs.Writing.{Written, written, writeFrame}
 use Rattle.frame.specs.Reading.{readFrame}
 use Rattle.link.specs.Closing.{acknowledgement}
-use Rattle.rows.specs.Rows.{boardOf, updateBoard, tickBoard}
+use Rattle.rows.specs.Rows.{rowCount, boardOf, updateBoard, tickBoard}
 use Rattle.rows.specs.declared.Board.{Board}
 use Rattle.rows.specs.declared.Row as row
 use Rattle.rows.specs.declared.State.{State}
@@ -80,7 +80,7 @@ outcome o = displayed (o .result .answer) (o .reply) (statesOf (o .result .displ
 
 -- a board right after an update of h1
 abbrev justUpdated : Board
-justUpdated = updateBoard 0 (pos 1) (boardOf (h1 ∷ []))
+justUpdated = updateBoard 0 (pos 1) (boardOf rowCount (h1 ∷ []))
 
 -- the board after so many ticks
 abbrev ticked : ℕ → Board → Board
@@ -102,12 +102,12 @@ table =
     ∷ given 5 (check (crcOf linkStart [])) (check 0xffff)
     ∷ given 6 (rows (map shown (after (start (h1 ∷ h2 ∷ [])) (piece frame6 (replicate 9 0) (replicate 383 0) ∷ []) .hives .entries)))
     (rows (current (pos 3450) 0 ∷ never ∷ []))
-    ∷ given 6 (outcome (receivePiece (fresh (boardOf (h1 ∷ h2 ∷ []))) frame6 9 383))
+    ∷ given 6 (outcome (receivePiece (fresh (boardOf rowCount (h1 ∷ h2 ∷ []))) frame6 9 383))
     (displayed (New 6 14 (board.the-variants.Updated 0 0)) (0x7e ∷ 0x02 ∷ 0x00 ∷ 0x7b ∷ 0x6d ∷ 0x7e ∷ []) (Current (pos 3450) 0 ∷ replicate 15 Never))
     ∷ given 7 (value (valueOf 0x02 (0xff ∷ 0x38 ∷ []))) (value (some (negsuc 199)))
     ∷ given 7 (value (valueOf 0x02 (0x80 ∷ []))) (value (some (negsuc 127)))
     ∷ given 8 (value (valueOf 0x16 (0x00 ∷ 0x00 ∷ 0x26 ∷ 0x90 ∷ []))) (value (some (pos 9872)))
-    ∷ given 9 (packet-read (readBoard (boardOf (h1 ∷ [])) (valued (0x02 ∷ 0x03 ∷ 0x00 ∷ 0x00 ∷ 0x01 ∷ [])) .answer))
+    ∷ given 9 (packet-read (readBoard (boardOf rowCount (h1 ∷ [])) (valued (0x02 ∷ 0x03 ∷ 0x00 ∷ 0x00 ∷ 0x01 ∷ [])) .answer))
     (packet-read (board.the-variants.Refused 13))
     ∷ given 10 (rows (rowOf (some (record { value = pos 1; ticks = 29 })) ∷ rowOf (older (some (record { value = pos 1; ticks = 29 }))) ∷ []))
     (rows (current (pos 1) 29 ∷ silent ∷ []))

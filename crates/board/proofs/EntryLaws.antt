@@ -30,28 +30,28 @@ rows-named [] h = refl
 rows-named (e ∷ es) h = ap₂ (λ (n : List ℕ) (l : List (List ℕ)). n ∷ l) (fresh-name (e .name) (h .0)) (rows-named es (h .1))
 
 -- these are the names that it watches
-pub showing-watched : (es : List Entry) → Fits (map entryName es) → watched (boardShowing es) ≡ map entryName es
+pub showing-watched : (es : List Entry) → Fits (map entryName es) → watched (boardShowing rowCount es) ≡ map entryName es
 showing-watched es h =
     rw (showing-names es (rows-named es h)) (used-first (map entryName es) (rowCount - length es) (none-empty (map entryName es) h))
 
 -- 01, The board: of a list that is accepted each name is valid, none stands twice, and there are at most 16
-names-good : (skip : ℕ) (names : List (List ℕ)) (rest : List ℕ) (out : List (List ℕ)) → Good names → namesFrom skip names rest ≡ some out → Good out
+names-good : (skip : ℕ) (names : List (List ℕ)) (rest : List ℕ) (out : List (List ℕ)) → Good rowCount names → namesFrom rowCount skip names rest ≡ some out → Good rowCount out
 unfolding namesFrom
 names-good zero names [] out o e = let same : names ≡ out = cc in rw (← same) o
 names-good zero names (tag ∷ []) out o e = impossible cc
 names-good zero names (tag ∷ high ∷ []) out o e = impossible cc
 names-good zero names (tag ∷ high ∷ low ∷ rest) out o e =
-    cases (isWhole tag (pairOf high low) rest && mayJoin names (take (pairOf high low) rest)) refl
+    cases (isWhole tag (pairOf high low) rest && mayJoin rowCount names (take (pairOf high low) rest)) refl
     (λ more next. names-good (pairOf high low) (names ++ (take (pairOf high low) rest ∷ [])) rest out more next) e
   where
-    cases : (t : Bool) → (isWhole tag (pairOf high low) rest && mayJoin names (take (pairOf high low) rest)) ≡ t → (Good (names ++ (take (pairOf high low) rest ∷ [])) → namesFrom (pairOf high low) (names ++ (take (pairOf high low) rest ∷ [])) rest ≡ some out → Good out) → cond t (namesFrom (pairOf high low) (names ++ (take (pairOf high low) rest ∷ [])) rest) none ≡ some out → Good out
+    cases : (t : Bool) → (isWhole tag (pairOf high low) rest && mayJoin rowCount names (take (pairOf high low) rest)) ≡ t → (Good rowCount (names ++ (take (pairOf high low) rest ∷ [])) → namesFrom rowCount (pairOf high low) (names ++ (take (pairOf high low) rest ∷ [])) rest ≡ some out → Good rowCount out) → cond t (namesFrom rowCount (pairOf high low) (names ++ (take (pairOf high low) rest ∷ [])) rest) none ≡ some out → Good rowCount out
     cases true h below e =
-        below (good-more names (take (pairOf high low) rest) o (both (isWhole tag (pairOf high low) rest) (mayJoin names (take (pairOf high low) rest)) h .second)) e
+        below (good-more names (take (pairOf high low) rest) o (both (isWhole tag (pairOf high low) rest) (mayJoin rowCount names (take (pairOf high low) rest)) h .second)) e
     cases false h below e = impossible cc
 names-good (suc skip) names [] out o e = impossible cc
 names-good (suc skip) names (byte ∷ rest) out o e = names-good skip names rest out o e
 
-pub list-good : (fields : List ℕ) (names : List (List ℕ)) → watchNames fields ≡ some names → Good names
+pub list-good : (fields : List ℕ) (names : List (List ℕ)) → watchNames rowCount fields ≡ some names → Good rowCount names
 list-good fields names e = names-good 0 [] fields names good-none e
 
 -- an accepted update has a row to change

@@ -40,7 +40,7 @@ module _ (name : List ℕ) (later : List (List ℕ)) where
       rw differs (in-shift name before 1 0 ∙ new-there before (parts .second))
 
   -- so each name of a good list may join those before it
-  pub may-join : (before : List (List ℕ)) → Good (before ++ (name ∷ later)) → mayJoin before name ≡ true
+  pub may-join : (before : List (List ℕ)) → Good rowCount (before ++ (name ∷ later)) → mayJoin rowCount before name ≡ true
   unfolding mayJoin
   may-join before good =
       let few : length before < rowCount = omega (arith, good .few, length-append before (name ∷ later)) in
@@ -54,7 +54,7 @@ module _ (name : List ℕ) (later : List (List ℕ)) where
       let fits : length name ≤ length (name ++ fieldsOf later) = omega (arith, length-append name (fieldsOf later)) in
       rw (size, le-leb (length name) (length (name ++ fieldsOf later)) fits)
 
-all-join : (before names : List (List ℕ)) → Good (before ++ names) → namesFrom 0 before (fieldsOf names) ≡ some (before ++ names)
+all-join : (before names : List (List ℕ)) → Good rowCount (before ++ names) → namesFrom rowCount 0 before (fieldsOf names) ≡ some (before ++ names)
 unfolding namesFrom fieldsOf
 all-join before [] good = ap some (sym (append-nil before))
 all-join before (name ∷ names) good =
@@ -65,5 +65,5 @@ all-join before (name ∷ names) good =
     (all-join (before ++ (name ∷ [])) names (rw behind good) ∙ ap some behind)
 
 -- THEOREM. Names of which each is valid, none stands twice and which are at most 16 are the names of the list of their fields.
-pub good-listed : (names : List (List ℕ)) → Good names → watchNames (fieldsOf names) ≡ some names
+pub good-listed : (names : List (List ℕ)) → Good rowCount names → watchNames rowCount (fieldsOf names) ≡ some names
 good-listed names good = all-join [] names good

@@ -55,7 +55,7 @@ fresh-names [] (suc k) h = ap (λ r. [] ∷ r) (fresh-names [] k h)
 fresh-names (name ∷ names) k h = ap₂ (λ p q. p ∷ q) (fresh-name name (h .0)) (fresh-names names k (h .1))
 
 -- the board of names that fit watches these names
-pub watched-names : (names : List (List ℕ)) → Fits names → watched (boardOf names) ≡ names
+pub watched-names : (names : List (List ℕ)) → Fits names → watched (boardOf rowCount names) ≡ names
 watched-names names h =
     rw (fresh-names names (rowCount - length names) h) (used-first names (rowCount - length names) (none-empty names h))
 
@@ -71,11 +71,11 @@ good-fits [] h = tt
 good-fits (name ∷ names) h =
     (valid-fit name (both (validName name) (allValid names) h .first), good-fits names (both (validName name) (allValid names) h .second))
 
-pub good-none : Good []
+pub good-none : Good rowCount []
 unfolding allValid distinct
 good-none = record { valid = refl; once = refl; few = omega arith }
 
-join-few : (names : List (List ℕ)) (name : List ℕ) → mayJoin names name ≡ true → length names < rowCount
+join-few : (names : List (List ℕ)) (name : List ℕ) → mayJoin rowCount names name ≡ true → length names < rowCount
 unfolding mayJoin
 join-few names name h =
     let test = not (isIn name names) && ltb (length names) rowCount in
@@ -98,7 +98,7 @@ once-more (first ∷ names) name h e =
     rw still (once-more names name (both (not (isIn first names)) (distinct names) h .second) (out .others))
 
 -- with a name that may join they are again
-pub good-more : (names : List (List ℕ)) (name : List ℕ) → Good names → mayJoin names name ≡ true → Good (names ++ (name ∷ []))
+pub good-more : (names : List (List ℕ)) (name : List ℕ) → Good rowCount names → mayJoin rowCount names name ≡ true → Good rowCount (names ++ (name ∷ []))
 unfolding mayJoin
 good-more names name o h =
     let test = not (isIn name names) && ltb (length names) rowCount in
@@ -117,7 +117,7 @@ join-row names name k h =
     (ap (λ (rows : List Row). record { rows = rows }) (change-unused names name k))
 
 -- one name more on a board of ours: the board of the names with it, in their order
-pub watch-more : (names : List (List ℕ)) (name : List ℕ) → Good names → mayJoin names name ≡ true → watchBoard (boardOf names) name ≡ acceptedWith (boardOf (names ++ (name ∷ [])))
+pub watch-more : (names : List (List ℕ)) (name : List ℕ) → Good rowCount names → mayJoin rowCount names name ≡ true → watchBoard (boardOf rowCount names) name ≡ acceptedWith (boardOf rowCount (names ++ (name ∷ [])))
 unfolding watchBoard
 watch-more names name o h =
     let few = join-few names name h in
@@ -126,24 +126,24 @@ watch-more names name o h =
     rw (watched-names names (good-fits names (o .valid)), h, now, then) (ap acceptedWith (join-row names name (rowCount - suc (length names)) (good-fits names (o .valid))))
 
 -- or the refusal, with the board as it was
-pub watch-refused : (names : List (List ℕ)) (name : List ℕ) → Good names → mayJoin names name ≡ false → watchBoard (boardOf names) name ≡ refusedWith (boardOf names)
+pub watch-refused : (names : List (List ℕ)) (name : List ℕ) → Good rowCount names → mayJoin rowCount names name ≡ false → watchBoard (boardOf rowCount names) name ≡ refusedWith (boardOf rowCount names)
 unfolding watchBoard
 watch-refused names name o h = rw (watched-names names (good-fits names (o .valid)), h)
 
 -- so the answer tells which it was
-pub accepted-joins : (names : List (List ℕ)) (name : List ℕ) → Good names → watchBoard (boardOf names) name .answer ≡ Accepted → mayJoin names name ≡ true
-accepted-joins names name o e = cases (mayJoin names name) refl
+pub accepted-joins : (names : List (List ℕ)) (name : List ℕ) → Good rowCount names → watchBoard (boardOf rowCount names) name .answer ≡ Accepted → mayJoin rowCount names name ≡ true
+accepted-joins names name o e = cases (mayJoin rowCount names name) refl
   where
-    cases : (t : Bool) → mayJoin names name ≡ t → t ≡ true
+    cases : (t : Bool) → mayJoin rowCount names name ≡ t → t ≡ true
     cases true h = refl
     cases false h =
         let r = watch-refused names name o h in
         impossible cc
 
-pub refused-stays : (names : List (List ℕ)) (name : List ℕ) (number : ℕ) → Good names → watchBoard (boardOf names) name .answer ≡ Refused number → mayJoin names name ≡ false
-refused-stays names name number o e = cases (mayJoin names name) refl
+pub refused-stays : (names : List (List ℕ)) (name : List ℕ) (number : ℕ) → Good rowCount names → watchBoard (boardOf rowCount names) name .answer ≡ Refused number → mayJoin rowCount names name ≡ false
+refused-stays names name number o e = cases (mayJoin rowCount names name) refl
   where
-    cases : (t : Bool) → mayJoin names name ≡ t → t ≡ false
+    cases : (t : Bool) → mayJoin rowCount names name ≡ t → t ≡ false
     cases false h = refl
     cases true h =
         let r = watch-more names name o h in

@@ -9,6 +9,7 @@ use lib.ListN.{length}
 use Rattle.slices.specs.Put.{putAt}
 use Rattle.rows.specs.Entries.{boardShowing}
 use Rattle.rows.specs.Names.{placeOf}
+use Rattle.rows.specs.Rows.{rowCount}
 use Rattle.board.specs.Reading as reading
 use Rattle.board.specs.Reading.{Verdict, readBoard}
 use Rattle.board.specs.declared.reading.Answer as board-answer
@@ -104,7 +105,7 @@ module _ (names : List (List ℕ)) (cs : List Call) (left : List Left) (end : Di
       append-cancel-left (framesIn (history cs left)) _ _ (sym (frames-append (start names) (history cs left) (eventsOf c more)) ∙ closes) in
       step-closes names l bytes reply packet sequence payload (rw (← ledger-is, more-is) at here)
 
-  board-is : end₁ .board ≡ boardShowing (map asEntry (step l c .ledger .hives .entries))
+  board-is : end₁ .board ≡ boardShowing rowCount (map asEntry (step l c .ledger .hives .entries))
   unfolding after
   board-is = one-call .agrees .shows .showing
 
@@ -120,8 +121,8 @@ module _ (names : List (List ℕ)) (cs : List Call) (left : List Left) (end : Di
         ∙ ap (asLeft names) (step-is .gives)
         ∙ ap (λ (x : Effect). asLeft names (given.took (step-is .count) (x .answer) (putAt reply 0 (x .reply)) (putAt packet 0 (x .packet)))) is
 
-    shown-is : end₁ .board ≡ boardShowing (map asEntry (e .ledger .hives .entries))
-    shown-is = board-is ∙ ap (λ (m : Ledger). boardShowing (map asEntry (m .hives .entries))) (step-is .leaves ∙ ap (λ (x : Effect). x .ledger) is)
+    shown-is : end₁ .board ≡ boardShowing rowCount (map asEntry (e .ledger .hives .entries))
+    shown-is = board-is ∙ ap (λ (m : Ledger). boardShowing rowCount (map asEntry (m .hives .entries))) (step-is .leaves ∙ ap (λ (x : Effect). x .ledger) is)
 
     counted-is : end₁ .link .counts ≡ asCounts (e .ledger .line .counts)
     counted-is = counts-are ∙ ap (λ (m : Ledger). asCounts (m .line .counts)) (step-is .leaves ∙ ap (λ (x : Effect). x .ledger) is)

@@ -7,7 +7,7 @@ use mathlib.Core.Option.{Option, some}
 use Prim.Native.Nat.{ℕ}
 use Rattle.rows.specs.Entries as shown
 use Rattle.rows.specs.Entries.{freshEntry, boardShowing}
-use Rattle.rows.specs.Rows.{boardOf}
+use Rattle.rows.specs.Rows.{rowCount, boardOf}
 use Rattle.board.specs.WatchList.{Good}
 use Rattle.board.proofs.WatchLaws.{Fits, good-fits}
 use Rattle.rows.proofs.EntryLaws.{fresh-showing}
@@ -32,7 +32,7 @@ pub record IsLedgers (w : WatchList) (cs : List Call) (left : List Left) (end : 
   -- each count modulo 65,536
   pub counts : end .link .counts ≡ asCounts (after (start names) cs .line .counts)
   -- the board, with all its rows, is the one that shows the ledger's entries
-  pub board : end .board ≡ boardShowing (map asEntry (after (start names) cs .hives .entries))
+  pub board : end .board ≡ boardShowing rowCount (map asEntry (after (start names) cs .hives .entries))
 
 fresh-shown : (names : List (List ℕ)) → map freshEntry names ≡ map asEntry (map unheard names)
 fresh-shown [] = refl
@@ -42,14 +42,14 @@ pub fresh-named : (names : List (List ℕ)) → map nameOf (map unheard names) �
 fresh-named [] = refl
 fresh-named (n ∷ names) = ap (λ (l : List (List ℕ)). n ∷ l) (fresh-named names)
 
-pub fresh-agrees : (names : List (List ℕ)) → Agrees names (start names) (display.fresh (boardOf names))
+pub fresh-agrees : (names : List (List ℕ)) → Agrees names (start names) (display.fresh (boardOf rowCount names))
 fresh-agrees names =
     record {
       ours = ours-fresh;
       standing = refl;
       last-is = refl;
       counts-are = refl;
-      shows = record { showing = fresh-showing names ∙ ap boardShowing (fresh-shown names); named = fresh-named names };
+      shows = record { showing = fresh-showing names ∙ ap (boardShowing rowCount) (fresh-shown names); named = fresh-named names };
     }
 
 -- after some calls display and ledger agree, and all that was left is what the ledger gives
@@ -76,7 +76,7 @@ same-names a b = cc
 
 -- names, and a list of calls from a fresh start with them
 pub record Agreeing (names : List (List ℕ)) (cs : List Call) (left : List Left) (end : Display) : Type 0 where
-  pub good : Good names
+  pub good : Good rowCount names
   pub fit : Fits names
   pub all : Agreed names (start names) cs left end
 
@@ -87,7 +87,7 @@ agreeing {w = w} {names = names} listed {d = d} begins chain =
     let same = same-names listed (b .listed) in
     let good = rw same at (b .good) in
     let fit = good-fits names (good .valid) in
-    let is : d ≡ display.fresh (boardOf names) = b .is ∙ ap (λ (ns : List (List ℕ)). display.fresh (boardOf ns)) same in
+    let is : d ≡ display.fresh (boardOf rowCount names) = b .is ∙ ap (λ (ns : List (List ℕ)). display.fresh (boardOf rowCount ns)) same in
     record {
       good = good;
       fit = fit;

@@ -70,7 +70,7 @@ read-by-type (content.frame kind sequence payload) previous before =
 
 -- the board shows what the ledger holds of each name, and the names are those of the watch list
 pub record Shows (names : List (List ℕ)) (es : List Entry) (board : Board) : Type 0 where
-  pub showing : board ≡ boardShowing (map asEntry es)
+  pub showing : board ≡ boardShowing rowCount (map asEntry es)
   pub named : map nameOf es ≡ names
 
 -- the result of a call and the ledger's effect agree
@@ -198,7 +198,7 @@ module _ (names : List (List ℕ)) (fit : Fits names) (w : Walk) (l : Ledger) (b
           showing =
               ap (updateBoard (t .place) value) (shows₀ .showing)
               ∙ update-showing (map asEntry (l .hives .entries)) name (t .place) value rows-have (t .named) stands
-              ∙ ap boardShowing (entries-updated name value (l .hives .entries));
+              ∙ ap (boardShowing rowCount) (entries-updated name value (l .hives .entries));
           named = names-updated name value (l .hives .entries) ∙ shows₀ .named;
         })
 
@@ -222,7 +222,7 @@ module _ (names : List (List ℕ)) (fit : Fits names) (w : Walk) (l : Ledger) (b
             by-row id name value (update-there board payload id name value watching) watching e
 
     -- so what the board makes of the packet is what the ledger makes of it
-    pub read-shown : readBoard board payload .board ≡ boardShowing (map asEntry (calls.newFrame l sequence payload .ledger .hives .entries))
+    pub read-shown : readBoard board payload .board ≡ boardShowing rowCount (map asEntry (calls.newFrame l sequence payload .ledger .hives .entries))
     read-shown = new-agrees .shows .showing
 
     pub read-answered : readBoard board payload .answer ≡ asReading names (calls.readingBy l payload)

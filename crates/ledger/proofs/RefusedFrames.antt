@@ -16,6 +16,7 @@ use Rattle.frame.specs.Content as content
 use Rattle.frame.specs.Reading.{readRun}
 use Rattle.frame.proofs.RefusalLaws.{run-number}
 use Rattle.rows.specs.Entries.{boardShowing}
+use Rattle.rows.specs.Rows.{rowCount}
 use Rattle.link.specs.Counts.{countOf}
 use Rattle.link.specs.declared.counts.Event.the-variants as event
 use Rattle.display.specs.declared.Answer.the-variants.{Refused}
@@ -155,7 +156,7 @@ module _ (names : List (List ℕ)) (cs : List Call) (left : List Left) (end : Di
         packet-kept = handed ∙ ap (putAt packet 0) (kept .packet);
         board-kept =
             one .agrees .shows .showing
-            ∙ ap (λ (m : Ledger). boardShowing (map asEntry (m .hives .entries))) ledger-is
+            ∙ ap (λ (m : Ledger). boardShowing rowCount (map asEntry (m .hives .entries))) ledger-is
             ∙ rw (kept .entries) (sym (a .all .agrees .shows .showing));
         last-kept =
             one .agrees .last-is

@@ -5,6 +5,7 @@ use mathlib.Core.List.{List, [], _∷_, map}
 use mathlib.Core.Option.{some}
 use Prim.Native.Nat.{ℕ}
 use Rattle.rows.specs.Entries.{boardShowing}
+use Rattle.rows.specs.Rows.{rowCount}
 use Rattle.display.specs.declared.Display.{Display}
 use Rattle.ledger.specs.Ledger.{Ledger, start}
 use Rattle.ledger.specs.Answers.{WatchList, namesIn, Call, Answer}
@@ -83,7 +84,7 @@ module _ (names : List (List ℕ)) where
               ∙ sym (two .all .agrees .counts-are);
           board =
               one .all .agrees .shows .showing
-              ∙ ap (λ (m : Ledger). boardShowing (map asEntry (m .hives .entries))) same-ledger
+              ∙ ap (λ (m : Ledger). boardShowing rowCount (map asEntry (m .hives .entries))) same-ledger
               ∙ sym (two .all .agrees .shows .showing);
           next =
               λ ds more more₁ then then₁ calls calls₁.
@@ -97,7 +98,7 @@ module _ (names : List (List ℕ)) where
                     ∙ sym (there .agrees .counts-are);
                 board =
                     here .agrees .shows .showing
-                    ∙ ap (λ (m : Ledger). boardShowing (map asEntry (after m ds .hives .entries))) same-ledger
+                    ∙ ap (λ (m : Ledger). boardShowing rowCount (map asEntry (after m ds .hives .entries))) same-ledger
                     ∙ sym (there .agrees .shows .showing);
               };
         }

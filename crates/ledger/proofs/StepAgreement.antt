@@ -12,7 +12,7 @@ use Rattle.slices.specs.Put.{putAt}
 use Rattle.frame.specs.Stuffing.{contentMax}
 use Rattle.frame.specs.Reading.{readRun}
 use Rattle.rows.specs.Entries.{boardShowing}
-use Rattle.rows.specs.Rows.{tickBoard}
+use Rattle.rows.specs.Rows.{rowCount, tickBoard}
 use Rattle.rows.specs.declared.Board.{Board}
 use Rattle.rows.proofs.EntryLaws.{tick-showing}
 use Rattle.board.specs.Reading as reading
@@ -179,7 +179,7 @@ tick-agrees names l d a =
             counts-are = a .counts-are;
             shows =
                 record {
-                  showing = ap tickBoard (a .shows .showing) ∙ tick-showing (map asEntry (l .hives .entries)) ∙ ap boardShowing (entries-older (l .hives .entries));
+                  showing = ap tickBoard (a .shows .showing) ∙ tick-showing (map asEntry (l .hives .entries)) ∙ ap (boardShowing rowCount) (entries-older (l .hives .entries));
                   named = names-older (l .hives .entries) ∙ a .shows .named;
                 };
           };

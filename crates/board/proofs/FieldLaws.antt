@@ -13,7 +13,8 @@ use Rattle.slices.proofs.Impossible.{impossible}
 use Rattle.slices.specs.HighFirst.{pairOf}
 use Rattle.slices.proofs.TestLaws.{both}
 use Rattle.rows.specs.Rows.{rowCount, boardOf}
-use Rattle.board.specs.WatchList.{Good, mayJoin, isWhole, namesFrom, watchNames, fieldOf, asField, watchBoard, acceptedWith, asWatched}
+use Rattle.board.specs.WatchList.{Good, mayJoin, isWhole, namesFrom, watchNames, watchBoard, acceptedWith, asWatched}
+use Rattle.board.specs.ListSteps.{fieldOf, asField}
 use Rattle.board.specs.declared.list.Field.the-variants.{Name, Bad}
 use Rattle.board.specs.declared.list.Listed.the-variants.{Accepted, Refused}
 use Rattle.board.specs.declared.list.Watched.{Watched}

@@ -16,7 +16,8 @@ use Rattle.packet.specs.Names.{validName}
 use Rattle.rows.specs.Names.{placeFrom, isIn}
 use Rattle.rows.specs.Rows.{rowCount}
 use Rattle.rows.proofs.NameLaws.{in-shift, not-in, differ}
-use Rattle.board.specs.WatchList.{Good, allValid, distinct, mayJoin, namesFrom, watchNames, nameField, fieldsOf, fieldOf}
+use Rattle.board.specs.WatchList.{Good, allValid, distinct, mayJoin, namesFrom, watchNames, nameField, fieldsOf}
+use Rattle.board.specs.ListSteps.{fieldOf}
 use Rattle.board.proofs.FieldLaws.{field-next}
 
 module _ (name : List ℕ) (later : List (List ℕ)) where

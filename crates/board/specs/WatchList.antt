@@ -13,8 +13,6 @@ use Rattle.packet.specs.Names.{validName}
 use Rattle.rows.specs.Names.{placeOf, isIn}
 use Rattle.rows.specs.Rows.{rowCount, rowNames, watched, freshRow, putRow, boardOf}
 use Rattle.rows.specs.declared.Board.{Board}
-use Rattle.board.specs.declared.list.Field.{Field}
-use Rattle.board.specs.declared.list.Field.the-variants.{Name, Bad}
 use Rattle.board.specs.declared.list.Listed.the-variants.{Accepted, Refused}
 use Rattle.board.specs.declared.list.Watched.{Watched}
 
@@ -64,18 +62,6 @@ nameField name = 0x01 ∷ length name / 256 ∷ length name % 256 ∷ name
 unfoldable pub fieldsOf : List (List ℕ) → List ℕ
 fieldsOf [] = []
 fieldsOf (name ∷ names) = nameField name ++ fieldsOf names
-
--- the length of the name that the fields begin with, or none where they begin with another field or a cut one
-unfoldable pub fieldOf : List ℕ → Option ℕ
-fieldOf [] = none
-fieldOf (tag ∷ []) = none
-fieldOf (tag ∷ high ∷ []) = none
-fieldOf (tag ∷ high ∷ low ∷ rest) = cond (isWhole tag (pairOf high low) rest) (some (pairOf high low)) none
-
--- how the code answers a field
-abbrev pub asField : Option ℕ → Field
-asField (some size) = Name size
-asField none = Bad
 
 -- how the code answers a watch list or a name that is refused
 abbrev pub refusedWith : Board → Watched

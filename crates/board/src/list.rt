@@ -1,7 +1,8 @@
 // The watch list: which names the board shows.
 ghost use mathlib.Core.Path.{_≡_};
 ghost use Rattle.rows.specs.Rows.{rowCount};
-ghost use Rattle.board.specs.WatchList.{watchBoard, watchNames, asWatched, refusedWith, fieldOf, asField};
+ghost use Rattle.board.specs.WatchList.{watchBoard, watchNames, asWatched, refusedWith};
+ghost use Rattle.board.specs.ListSteps.{fieldOf, asField};
 use rows::Board;
 use rows::Place;
 use rows::find;

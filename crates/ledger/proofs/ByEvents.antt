@@ -2,16 +2,12 @@
 -- other do one after the other.
 use mathlib.Core.Path.{_≡_, refl, sym, ap, _∙_}
 use mathlib.Core.Bool.{Bool, true, false, cond}
-use mathlib.Core.List.{List, [], _∷_, _++_, map, append-assoc}
-use mathlib.Core.Option.{Option, some, none}
+use mathlib.Core.List.{List, [], _∷_, _++_, append-assoc}
+use mathlib.Core.Option.{Option, some}
 use Prim.Native.Nat.{ℕ}
 use lib.Dec.{eqb}
-use borrow.Author.Tests.{eqb-true}
-use Rattle.slices.proofs.Impossible.{impossible}
 use Rattle.refusals.specs.Numbers.{shortOutput}
-use Rattle.board.specs.Reading as reading
-use Rattle.board.specs.Reading.{Verdict}
-use Rattle.ledger.specs.Ledger.{Ledger, olderEntry}
+use Rattle.ledger.specs.Ledger.{Ledger}
 use Rattle.ledger.specs.Frames as frames
 use Rattle.ledger.specs.Frames.{Turn, goes-on, closes, turn, Frame, frameOf}
 use Rattle.ledger.specs.Answers.{Answer, nothing, refused, heard, again, new}
@@ -19,7 +15,7 @@ use Rattle.ledger.specs.Calls as calls
 use Rattle.ledger.specs.Calls.{repeated, closed, withRun}
 use Rattle.ledger.specs.History.{Event, byte, minute}
 use Rattle.ledger.specs.ClosedFrames.{Mark, passed, frame, behindTurn, marksFrom, framesOf, dataSequences, lastFrom}
-use Rattle.ledger.proofs.StepAgreement.{run-kept}
+use Rattle.ledger.proofs.LineLaws.{run-kept, repeats-last, read-sequence}
 
 -- of the ledger's answers those that do not depend on where a piece was cut, as History `answersAs` has it of the software's
 abbrev pub toldBy : Answer → List Answer
@@ -88,20 +84,6 @@ pub frames-append : (l : Ledger) (xs ys : List Event)
 frames-append l xs ys = ap framesOf (marks-append l xs ys) ∙ frames-joined (marksFrom (l .line .run) xs) (marksFrom (afterHistory l xs .line .run) ys)
 
 -- the ledger's last sequence is that of the last data frame that was closed
-pub repeats-last : (last : Option ℕ) (sequence : ℕ) → repeated last sequence ≡ true → last ≡ some sequence
-repeats-last none sequence e = impossible cc
-repeats-last (some before) sequence e = cases (eqb sequence 0) (eqb sequence before) refl e
-  where
-    cases : (t u : Bool) → eqb sequence before ≡ u → cond t false u ≡ true → some before ≡ some sequence
-    cases true u f e = impossible cc
-    cases false true f e = ap some (sym (eqb-true sequence before f))
-    cases false false f e = impossible cc
-
-pub read-sequence : (l : Ledger) (sequence : ℕ) (v : Verdict) → calls.afterReading (calls.afterNew l sequence) v .line .sequence ≡ some sequence
-read-sequence l sequence (reading.refused k) = refl
-read-sequence l sequence (reading.endMark id) = refl
-read-sequence l sequence (reading.update id name value) = refl
-
 closed-sequence : (l : Ledger) (f : Frame) (fs : List Frame)
     → lastFrom (closed l f .ledger .line .sequence) (dataSequences fs) ≡ lastFrom (l .line .sequence) (dataSequences (f ∷ fs))
 unfolding dataSequences lastFrom

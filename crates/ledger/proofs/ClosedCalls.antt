@@ -5,9 +5,8 @@ use mathlib.Core.List.{List, [], _∷_, _++_, map}
 use mathlib.Core.Option.{Option, some, none}
 use Prim.Native.Nat.{ℕ, _-_}
 use native.Mathlib.Omega.{arith}
-use lib.Dec.{eqb, ltb}
+use lib.Dec.{ltb}
 use lib.ListN.{length, take}
-use borrow.Author.Tests.{eq-eqb, ne-eqb}
 use Rattle.slices.proofs.Impossible.{impossible}
 use Rattle.slices.specs.Put.{putAt}
 use Rattle.display.specs.declared.Display.{Display}
@@ -17,8 +16,8 @@ use Rattle.ledger.specs.Frames.{Frame, Taken, taken, frameOf}
 use Rattle.ledger.specs.Answers as given
 use Rattle.ledger.specs.Answers.{Call, piece}
 use Rattle.ledger.specs.Calls as calls
-use Rattle.ledger.specs.Calls.{repeated, closed, withRun, pieceStep, shortStep, step, after}
-use Rattle.ledger.specs.Shown.{Left, took, asLeft}
+use Rattle.ledger.specs.Calls.{closed, withRun, pieceStep, shortStep, step, after}
+use Rattle.ledger.specs.Shown.{Left, asLeft}
 use Rattle.ledger.specs.History.{byte, eventsOf, history}
 use Rattle.ledger.specs.ClosedFrames.{marksFrom, framesOf, framesIn, Closes}
 use Rattle.ledger.proofs.EveryList.{Agreeing}
@@ -59,23 +58,6 @@ step-closes names l bytes reply packet sequence payload = by-room (ltb (length r
         let t = taken (l .line .run) bytes 0 in
         let all : t .count - 0 ≡ t .count = omega arith in
         by-frame t (t .frame) refl (sym (rw all at (piece-same bytes l 0 .frames)) ∙ e)
-
--- what it does, by the last sequence
-pub repeats : (last : Option ℕ) (sequence : ℕ) → last ≡ some sequence → (sequence ≡ 0 → ⊥) → repeated last sequence ≡ true
-repeats none sequence e more = impossible cc
-repeats (some before) sequence e more = let same : sequence ≡ before = cc in rw (ne-eqb sequence 0 more, eq-eqb sequence before same)
-
-pub zero-new : (last : Option ℕ) (sequence : ℕ) → sequence ≡ 0 → repeated last sequence ≡ false
-zero-new none sequence e = refl
-zero-new (some before) sequence e = rw e
-
-pub other-new : (last : Option ℕ) (sequence : ℕ) → (last ≡ some sequence → ⊥) → repeated last sequence ≡ false
-other-new none sequence other = refl
-other-new (some before) sequence other = rw (ne-eqb sequence before (λ e. other (ap some (sym e)))) (never (eqb sequence 0))
-  where
-    never : (t : Bool) → cond t false false ≡ false
-    never true = refl
-    never false = refl
 
 -- what a call with room closed is what its part of the history closes
 pub closes-here : (names : List (List ℕ)) (cs : List Call) (left : List Left) (end : Display) → Agreeing names cs left end

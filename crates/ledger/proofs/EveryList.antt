@@ -14,12 +14,13 @@ use Rattle.rows.proofs.EntryLaws.{fresh-showing}
 use Rattle.link.proofs.OursLaws.{ours-fresh}
 use Rattle.display.specs.Display as display
 use Rattle.display.specs.declared.Display.{Display}
-use Rattle.ledger.specs.Ledger.{Entry, Ledger, unheard, nameOf, start}
+use Rattle.ledger.specs.Ledger.{Ledger, unheard, nameOf, start}
 use Rattle.ledger.specs.Answers as answers
 use Rattle.ledger.specs.Answers.{WatchList, namesIn, Call}
 use Rattle.ledger.specs.Calls.{step, given, after}
 use Rattle.ledger.specs.Shown.{asCounts, asEntry, Left, asLeft}
-use Rattle.ledger.proofs.StepAgreement.{Agrees, piece-agrees, tick-agrees}
+use Rattle.ledger.proofs.StepAgreement.{Agrees, Gives, tick-agrees}
+use Rattle.ledger.proofs.PieceAgreement.{piece-agrees}
 use Rattle.ledger.proofs.Chain.{Begins, Chain, done, receives, ticks, received}
 use Rattle.ledger.proofs.FreshStarts.{began}
 
@@ -93,6 +94,15 @@ agreeing {w = w} {names = names} listed {d = d} begins chain =
       fit = fit;
       all = chain-agrees names fit (start names) chain (subst⁻¹ (λ (x : Display). Agrees names (start names) x) is (fresh-agrees names));
     }
+
+-- the next call, by the ledger that the calls before it left
+pub next-call : {names : List (List ℕ)} {cs : List Call} {left : List Left} {end : Display} → Agreeing names cs left end
+    → {c : Call} {more : Left} {end₁ : Display} → Chain end (c ∷ []) (more ∷ []) end₁ → Gives names (step (after (start names) cs) c) more end₁
+unfolding given after
+next-call {names = names} {cs = cs} a next =
+    let one = chain-agrees names (a .fit) (after (start names) cs) next (a .all .agrees) in
+    let given-is = one .gives in
+    record { gives = cc; agrees = one .agrees }
 
 -- THEOREM. Every list of calls is the ledger's.
 pub every-list : (w : WatchList) (d : Display) → Begins w d → (cs : List Call) (left : List Left) (end : Display) → Chain d cs left end

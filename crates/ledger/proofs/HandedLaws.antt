@@ -6,27 +6,23 @@ use mathlib.Core.List.{List, [], _∷_}
 use mathlib.Core.Option.{Option, some, none}
 use Prim.Native.Nat.{ℕ, _≤_}
 use native.Mathlib.Omega.{arith}
-use lib.Dec.{eqb, ltb}
+use lib.Dec.{ltb}
 use lib.ListN.{length, take}
 use borrow.Author.Tests.{ltb-false}
-use Rattle.refusals.specs.Numbers.{unknownType, loadedAcknowledgement}
-use Rattle.slices.proofs.Impossible.{impossible}
 use Rattle.slices.specs.Put.{putAt}
 use Rattle.slices.proofs.PutLaws.{put-first}
-use Rattle.frame.specs.Content as content
-use Rattle.frame.specs.Reading.{readRun}
-use Rattle.frame.proofs.FrameTheorems.{run-bounded}
 use Rattle.link.specs.Closing.{acknowledgement}
 use Rattle.link.proofs.ClosingLaws.{acknowledgement-fits}
 use Rattle.ledger.specs.Ledger.{Ledger}
 use Rattle.ledger.specs.Frames as frames
-use Rattle.ledger.specs.Frames.{Frame, taken, byType, frameOf}
+use Rattle.ledger.specs.Frames.{Frame, taken, frameOf}
 use Rattle.ledger.specs.Answers as answers
 use Rattle.ledger.specs.Answers.{Call, Given, Answer}
 use Rattle.ledger.specs.Calls as calls
-use Rattle.ledger.specs.Calls.{Effect, answerTo, repeated, closed, effectOf, withRun, pieceStep, shortStep, step, given}
+use Rattle.ledger.specs.Calls.{Effect, answerTo, repeated, closed, effectOf, withRun, pieceStep, shortStep, step}
 use Rattle.ledger.specs.Shown.{asAnswer, asLeft}
 use Rattle.ledger.specs.History.{Handed, as-reply, as-packet, handedAs, handedLeft}
+use Rattle.ledger.proofs.FrameLaws.{payload-bounded}
 
 -- what the ledger hands out with an answer
 abbrev pub handedBy : Answer → List Handed
@@ -39,23 +35,6 @@ handedBy (answers.new sequence payload verdict) = as-reply (answerTo sequence) �
 abbrev pub handedIn : Given → List Handed
 handedIn (answers.took n answer reply packet) = handedBy answer
 handedIn answers.ticked = []
-
--- a good data frame has at most 383 bytes of payload
-payload-bounded : (run : List ℕ) (sequence : ℕ) (payload : List ℕ) → frameOf run ≡ frames.good sequence payload → length payload ≤ 383
-unfolding frameOf
-payload-bounded run sequence payload e = by-read (readRun run) refl e
-  where
-    by-read : (found : content.Read) → readRun run ≡ found → byType found ≡ frames.good sequence payload → length payload ≤ 383
-    by-read (content.refused n) f e = impossible cc
-    by-read (content.frame kind other bytes) f e = by-type (eqb kind 0x01) (eqb kind 0x02) (eqb (length bytes) 0) e
-      where
-        by-type : (t u v : Bool)
-            → cond t (frames.good other bytes) (cond u (cond v (frames.acknowledgement other) (frames.refused loadedAcknowledgement)) (frames.refused unknownType)) ≡ frames.good sequence payload
-            → length payload ≤ 383
-        by-type true u v e = let same : bytes ≡ payload = cc in rw (← same) (run-bounded run kind other bytes f)
-        by-type false true true e = impossible cc
-        by-type false true false e = impossible cc
-        by-type false false v e = impossible cc
 
 -- a frame that was closed, with buffers that have room
 module _ (names : List (List ℕ)) (l : Ledger) (reply packet : List ℕ) (reply-room : 9 ≤ length reply) (packet-room : 383 ≤ length packet) where

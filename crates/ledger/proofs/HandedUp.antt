@@ -3,7 +3,7 @@
 use mathlib.Core.Path.{_≡_, refl, sym, ap, _∙_}
 use mathlib.Core.Bool.{Bool, true, false, cond}
 use mathlib.Core.List.{List, [], _∷_, _++_}
-use mathlib.Core.Option.{Option, some, none}
+use mathlib.Core.Option.{Option, some}
 use Prim.Native.Nat.{ℕ}
 use lib.Dec.{eqb}
 use Rattle.refusals.specs.Numbers.{shortOutput}
@@ -18,11 +18,11 @@ use Rattle.ledger.specs.Calls.{repeated, closed, withRun}
 use Rattle.ledger.specs.Shown.{Left}
 use Rattle.ledger.specs.History.{Event, byte, minute, history, among, packetIn, packetsHanded, allHanded}
 use Rattle.ledger.specs.ClosedFrames.{behindTurn, marksFrom}
-use Rattle.ledger.specs.BoardEvents.{BoardEvent, packet, behindFrame, boardEventsOf, boardEventsIn, packetsIn}
-use Rattle.ledger.proofs.StepAgreement.{run-kept}
+use Rattle.ledger.specs.BoardEvents.{BoardEvent, behindFrame, boardEventsOf, boardEventsIn, packetsIn}
+use Rattle.ledger.proofs.LineLaws.{run-kept, repeats-last, read-sequence}
 use Rattle.ledger.proofs.Chain.{Begins, Chain}
 use Rattle.ledger.proofs.EveryList.{agreeing}
-use Rattle.ledger.proofs.ByEvents.{toldBy, atTurn, happens, toldInHistory, repeats-last, read-sequence}
+use Rattle.ledger.proofs.ByEvents.{toldBy, atTurn, happens, toldInHistory}
 use Rattle.ledger.proofs.ToldLaws.{handedWith, handed-append, among-append, all-handed}
 use Rattle.ledger.proofs.SameHistory.{told-by}
 

@@ -23,7 +23,8 @@ use Rattle.ledger.specs.History.{history}
 use Rattle.ledger.specs.BoardEvents.{BoardEvent, boardEventsIn}
 use Rattle.ledger.proofs.EveryList.{Agreeing, fresh-named}
 use Rattle.ledger.proofs.SameHistory.{after-by}
-use Rattle.ledger.proofs.UpdateLaws.{lastUpdate, afterEvents, history-followed}
+use Rattle.ledger.proofs.UpdateLaws.{lastUpdate, afterEvents}
+use Rattle.ledger.proofs.HistoryUpdates.{history-followed}
 
 -- what the row of a name shows after some events
 abbrev pub rowAfter : List (List ℕ) → List BoardEvent → List ℕ → shown.Entry

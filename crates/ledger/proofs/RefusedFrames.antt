@@ -1,20 +1,14 @@
 -- DEMAND 1 of the display, a bad frame: it is off the line and counted, and buffers, board and last sequence are as they were, since a frame
 -- that is refused hands nothing out.
-use mathlib.Core.Path.{_≡_, refl, sym, ap, _∙_}
+use mathlib.Core.Path.{_≡_, sym, ap, _∙_}
 use mathlib.Core.Bool.{Bool, true, false, cond}
 use mathlib.Core.List.{List, [], _∷_, map}
 use mathlib.Core.Option.{Option, some, none}
-use Prim.Native.Nat.{ℕ, _-_, _≤_}
-use native.Mathlib.Omega.{arith}
-use lib.Dec.{eqb}
+use Prim.Native.Nat.{ℕ, _≤_}
 use lib.ListN.{length, take}
 use borrow.Author.Tests.{le-ltb}
-use Rattle.refusals.specs.Numbers.{unknownType, loadedAcknowledgement}
 use Rattle.slices.proofs.Impossible.{impossible}
 use Rattle.slices.specs.Put.{putAt}
-use Rattle.frame.specs.Content as content
-use Rattle.frame.specs.Reading.{readRun}
-use Rattle.frame.proofs.RefusalLaws.{run-number}
 use Rattle.rows.specs.Entries.{boardShowing}
 use Rattle.rows.specs.Rows.{rowCount}
 use Rattle.link.specs.Counts.{countOf}
@@ -23,7 +17,7 @@ use Rattle.display.specs.declared.Answer.the-variants.{Refused}
 use Rattle.display.specs.declared.Display.{Display}
 use Rattle.ledger.specs.Ledger.{Ledger, start, plusRefused}
 use Rattle.ledger.specs.Frames as frames
-use Rattle.ledger.specs.Frames.{Frame, Taken, taken, byType, frameOf}
+use Rattle.ledger.specs.Frames.{Frame, Taken, taken, frameOf}
 use Rattle.ledger.specs.Answers.{WatchList, namesIn, Call, piece}
 use Rattle.ledger.specs.Calls as calls
 use Rattle.ledger.specs.Calls.{Effect, repeated, closed, effectOf, withRun, pieceStep, step, after}
@@ -31,34 +25,13 @@ use Rattle.ledger.specs.Shown.{asCounts, asEntry, asAnswer, Left, took, 
 use Rattle.ledger.specs.History.{Event, byte, history}
 use Rattle.ledger.specs.ClosedFrames.{Closes}
 use Rattle.ledger.proofs.CountAgreement.{count-refused}
-use Rattle.ledger.proofs.FrameAgreement.{asLast}
+use Rattle.ledger.proofs.FrameOutcomes.{asLast}
+use Rattle.ledger.proofs.FrameLaws.{frame-number}
+use Rattle.ledger.proofs.StepAgreement.{Gives}
 use Rattle.ledger.proofs.Chain.{Begins, Chain}
-use Rattle.ledger.proofs.EveryList.{Agreed, chain-agrees, Agreeing, agreeing}
+use Rattle.ledger.proofs.EveryList.{Agreeing, agreeing, next-call}
 use Rattle.ledger.proofs.HistoryLaws.{closedFrames}
-use Rattle.ledger.proofs.SameHistory.{next-given}
 use Rattle.ledger.proofs.ClosedCalls.{closes-here}
-
--- the numbers of refused frames
-frame-number : (run : List ℕ) (n : ℕ) → frameOf run ≡ frames.refused n → (1 ≤ n) × (n ≤ 6)
-unfolding frameOf
-frame-number run n e = by-read (readRun run) refl e
-  where
-    by-number : (m : ℕ) → 1 ≤ m → m ≤ 6 → frames.refused m ≡ frames.refused n → (1 ≤ n) × (n ≤ 6)
-    by-number m least most e = let same : m ≡ n = cc in rw (← same) (least, most)
-
-    by-type : (sequence : ℕ) (payload : List ℕ) (t u v : Bool)
-        → cond t (frames.good sequence payload) (cond u (cond v (frames.acknowledgement sequence) (frames.refused loadedAcknowledgement)) (frames.refused unknownType))
-        ≡ frames.refused n → (1 ≤ n) × (n ≤ 6)
-    by-type sequence payload true u v e = impossible cc
-    by-type sequence payload false true true e = impossible cc
-    by-type sequence payload false true false e = by-number loadedAcknowledgement (omega arith) (omega arith) e
-    by-type sequence payload false false v e = by-number unknownType (omega arith) (omega arith) e
-
-    by-read : (found : content.Read) → readRun run ≡ found → byType found ≡ frames.refused n → (1 ≤ n) × (n ≤ 6)
-    by-read (content.refused m) f e =
-        let known = run-number m run f in
-        by-number m (known .0) (omega (arith, known .1)) e
-    by-read (content.frame kind sequence payload) f e = by-type sequence payload (eqb kind 0x01) (eqb kind 0x02) (eqb (length payload) 0) e
 
 -- an effect that is answered by a refusal
 record Kept (l : Ledger) (n : ℕ) (frame : Option (List ℕ)) : Type 0 where
@@ -123,16 +96,14 @@ module _ (names : List (List ℕ)) (cs : List Call) (left : List Left) (end : Di
   abbrev effect : Effect
   effect = effectOf (withRun l (t .run)) (t .frame)
 
-  one : Agreed names l (piece bytes reply packet ∷ []) (took count (Refused n) reply₁ packet₁ ∷ []) end₁
-  one = chain-agrees names (a .fit) l next (a .all .agrees)
+  one : Gives names (step l (piece bytes reply packet)) (took count (Refused n) reply₁ packet₁) end₁
+  one = next-call a next
 
   ledger-is : step l (piece bytes reply packet) .ledger ≡ effect .ledger
   ledger-is = ap (λ (s : calls.Step). s .ledger) (with-room l bytes reply packet r p)
 
   gave : took count (Refused n) reply₁ packet₁ ≡ asLeft names (pieceStep l t reply packet .given)
-  gave =
-      next-given names l (piece bytes reply packet) (took count (Refused n) reply₁ packet₁) (one .gives)
-      ∙ ap (λ (s : calls.Step). asLeft names (s .given)) (with-room l bytes reply packet r p)
+  gave = one .gives ∙ ap (λ (s : calls.Step). asLeft names (s .given)) (with-room l bytes reply packet r p)
 
   kept : Kept (withRun l (t .run)) n (t .frame)
   kept = let said = gave in effect-kept names n (withRun l (t .run)) (t .frame) (let same : asAnswer names (effect .answer) ≡ Refused n = cc in same)
@@ -144,7 +115,6 @@ module _ (names : List (List ℕ)) (cs : List Call) (left : List Left) (end : Di
       closes-here names cs left end a bytes count (frames.refused n) all (kept .closes)
 
   off-the-line : OffTheLine n (history cs left) (map byte (take count bytes)) reply packet end reply₁ packet₁ end₁
-  unfolding after
   off-the-line =
       let said = gave in
       let replied : reply₁ ≡ putAt reply 0 (effect .reply) = cc in

@@ -26,7 +26,7 @@ use Rattle.ledger.specs.Calls.{answerTo, repeated, closed, withRun}
 use Rattle.ledger.specs.Shown.{Left}
 use Rattle.ledger.specs.History.{Event, byte, minute, history, among, replyIn, repliesHanded, allHanded}
 use Rattle.ledger.specs.ClosedFrames.{behindTurn, marksFrom, framesOf, framesIn, dataSequences}
-use Rattle.ledger.proofs.StepAgreement.{run-kept}
+use Rattle.ledger.proofs.LineLaws.{run-kept}
 use Rattle.ledger.proofs.Chain.{Begins, Chain}
 use Rattle.ledger.proofs.EveryList.{agreeing}
 use Rattle.ledger.proofs.ByEvents.{toldBy, atTurn, happens, toldInHistory}

@@ -1,15 +1,12 @@
--- DEMAND 1 of the display, the other refusals: a call with a short buffer does not look at the piece and leaves all as it was; a packet that
--- the board refuses leaves the board, and is counted as unread.
+-- DEMAND 1 of the display, a packet that the board refuses: the board is as it was, since what it reads is refused before a row is changed,
+-- and the packet is counted as new and as unread.
 use mathlib.Core.Path.{_≡_, refl, ap, _∙_}
 use mathlib.Core.Bool.{Bool, true, false, cond, _||_}
 use mathlib.Core.List.{List, [], _∷_, map}
 use mathlib.Core.Option.{Option, some, none}
-use mathlib.Core.Logic.{_⊎_, inl, inr}
-use Prim.Native.Nat.{ℕ, _<_}
+use Prim.Native.Nat.{ℕ}
 use lib.Dec.{ltb}
 use lib.ListN.{length, take}
-use borrow.Author.Tests.{ltb-true, ltb-false}
-use Rattle.refusals.specs.Numbers.{shortOutput}
 use Rattle.slices.proofs.Impossible.{impossible}
 use Rattle.slices.specs.Put.{putAt}
 use Rattle.rows.specs.Names.{placeOf}
@@ -20,13 +17,9 @@ use Rattle.board.specs.Reading.{Verdict, readingOf, updated, applied, readBoard
 use Rattle.board.specs.declared.reading.Answer as board-answer
 use Rattle.board.specs.declared.reading.Answer.the-variants as board-says
 use Rattle.link.specs.Counts.{countOf}
-use Rattle.link.specs.Receiving.{receiveOf, shortCall}
 use Rattle.link.specs.declared.counts.Event.the-variants as event
-use Rattle.link.proofs.ReceivingLaws.{short-reply, short-packet}
-use Rattle.display.specs.Display.{outcomeOf, receivePiece, DisplaysAs}
-use Rattle.display.specs.declared.Answer.the-variants.{Refused, New}
+use Rattle.display.specs.declared.Answer.the-variants.{New}
 use Rattle.display.specs.declared.Display.{Display}
-use Rattle.display.specs.declared.Received.{Received}
 use Rattle.ledger.specs.Ledger.{Ledger, start}
 use Rattle.ledger.specs.Frames as frames
 use Rattle.ledger.specs.Frames.{Frame, Taken, taken, frameOf}
@@ -35,34 +28,11 @@ use Rattle.ledger.specs.Calls.{answerTo, repeated, closed, effectOf, wit
 use Rattle.ledger.specs.Shown.{asAnswer, Left, took, asLeft}
 use Rattle.ledger.specs.History.{Event, byte, history}
 use Rattle.ledger.specs.ClosedFrames.{Closes}
-use Rattle.ledger.proofs.Chain.{Begins, Chain, done, receives, received}
-use Rattle.ledger.proofs.EveryList.{chain-agrees, Agreeing, agreeing}
+use Rattle.ledger.proofs.Chain.{Begins, Chain}
+use Rattle.ledger.proofs.EveryList.{Agreeing, agreeing, next-call}
 use Rattle.ledger.proofs.HistoryLaws.{closedFrames}
-use Rattle.ledger.proofs.SameHistory.{next-given}
 use Rattle.ledger.proofs.ClosedCalls.{closes-here}
-use Rattle.ledger.proofs.AtOnce.{dropped, read-new}
-
-call-short : (d : Display) (bytes reply packet : List ℕ) → (length reply < 9) ⊎ (length packet < 383)
-    → receiveOf (d .link) bytes (length reply) (length packet) ≡ shortCall (d .link)
-call-short d bytes reply packet (inl few) = short-reply (d .link) bytes (length reply) (length packet) few
-call-short d bytes reply packet (inr few) = by-reply (ltb (length reply) 9) refl
-  where
-    by-reply : (t : Bool) → ltb (length reply) 9 ≡ t → receiveOf (d .link) bytes (length reply) (length packet) ≡ shortCall (d .link)
-    by-reply true e = short-reply (d .link) bytes (length reply) (length packet) (ltb-true (length reply) 9 e)
-    by-reply false e = short-packet (d .link) bytes (length reply) (length packet) (ltb-false (length reply) 9 e) few
-
-short-done : (d : Display) (reply packet : List ℕ) (result : Received) (reply₁ packet₁ : List ℕ)
-    → DisplaysAs (outcomeOf (d .board) (shortCall (d .link))) reply packet result reply₁ packet₁
-    → (took (result .taken) (result .answer) reply₁ packet₁ ≡ took 0 (Refused shortOutput) reply packet) × (result .display ≡ d)
-short-done d reply packet result reply₁ packet₁ does = rw (does .answers, does .replied, does .handed-out) (refl, refl)
-
--- THEOREM. Whatever the display, a call that is lent a reply buffer of under 9 bytes or a packet buffer of under 383 is refused with 7, takes
--- nothing, and leaves the display and both buffers as they were.
-pub short-buffer : (d d₁ : Display) (bytes reply packet : List ℕ) (left : Left) → Chain d (piece bytes reply packet ∷ []) (left ∷ []) d₁
-    → (length reply < 9) ⊎ (length packet < 383) → (left ≡ took 0 (Refused shortOutput) reply packet) × (d₁ ≡ d)
-unfolding receivePiece
-short-buffer d d₁ bytes reply packet left (receives {reply₁ = reply₁} {packet₁ = packet₁} {result = result} r done) short =
-    short-done d reply packet result reply₁ packet₁ (rw (call-short d bytes reply packet short) at (received r))
+use Rattle.ledger.proofs.DataCalls.{dropped, read-new}
 
 refused-stays : (board : Board) (v : Verdict) (k : ℕ) → applied board v .answer ≡ board-says.Refused k → applied board v .board ≡ board
 unfolding applied updated
@@ -146,7 +116,7 @@ refused-packet names w listed d begins cs left end chain bytes reply packet coun
     found : NewFound l bytes count
     found =
         new-found names l bytes reply packet count m size (board-says.Refused k) reply₁ packet₁
-        (next-given names l (piece bytes reply packet) more (chain-agrees names (a .fit) l next (a .all .agrees) .gives))
+        (next-call a next .gives)
 
     closes : Closes (history cs left) (map byte (take count bytes)) (frames.good (found .sequence) (found .payload))
     closes = closes-here names cs left end a bytes count (frames.good (found .sequence) (found .payload)) (found .counted) (found .closes)

@@ -22,7 +22,7 @@ use Rattle.rows.proofs.EntryLaws.{Named, showing-names}
 use Rattle.board.specs.WatchList.{Good, mayJoin, isWhole, namesFrom, watchNames}
 use Rattle.board.specs.Reading.{Verdict, refused, endMark, update, verdictOf, ifWatched, readingOf, refusedWith, updated, applied, readBoard}
 use Rattle.board.specs.declared.reading.Answer.the-variants.{Updated, EndMark}
-use Rattle.board.proofs.WatchLaws.{Fits, none-empty, fresh-name, good-none, good-more}
+use Rattle.board.proofs.NameLaws.{Fits, none-empty, fresh-name, good-none, good-more}
 
 -- the rows of a board that shows entries have their names
 pub rows-named : (es : List Entry) → Fits (map entryName es) → Named es

@@ -19,7 +19,8 @@ use Rattle.board.specs.declared.list.Field.the-variants.{Name, Bad}
 use Rattle.board.specs.declared.list.Listed.the-variants.{Accepted, Refused}
 use Rattle.board.specs.declared.list.Watched.{Watched}
 use Rattle.rows.specs.declared.Board.{Board}
-use Rattle.board.proofs.WatchLaws.{good-more, watch-more, accepted-joins, refused-stays}
+use Rattle.board.proofs.NameLaws.{good-more}
+use Rattle.board.proofs.WatchLaws.{watch-more, accepted-joins, refused-stays}
 
 -- the bytes of a name that has joined are passed over
 skipped : (n : ℕ) (names : List (List ℕ)) (rest : List ℕ) → n ≤ length rest → namesFrom rowCount n names rest ≡ namesFrom rowCount 0 names (drop n rest)

@@ -25,7 +25,7 @@ use Rattle.rows.specs.declared.Board.{Board}
 use Rattle.board.specs.declared.reading.Task.the-variants.{Reject, Finish, Apply}
 use Rattle.board.specs.declared.reading.Answer.the-variants.{Updated}
 use Rattle.rows.proofs.NameLaws.{in-used}
-use Rattle.board.proofs.WatchLaws.{valid-fit}
+use Rattle.board.proofs.NameLaws.{valid-fit}
 
 module _ (id : ℕ) (items : List Item) where
   pub task-one : countOf nameKind items ≡ 1 → taskOfItems id items ≡ Apply id

@@ -9,7 +9,7 @@ use Rattle.rows.specs.Entries as shown
 use Rattle.rows.specs.Entries.{freshEntry, boardShowing}
 use Rattle.rows.specs.Rows.{rowCount, boardOf}
 use Rattle.board.specs.WatchList.{Good}
-use Rattle.board.proofs.WatchLaws.{Fits, good-fits}
+use Rattle.board.proofs.NameLaws.{Fits, good-fits}
 use Rattle.rows.proofs.EntryLaws.{fresh-showing}
 use Rattle.link.proofs.OursLaws.{ours-fresh}
 use Rattle.display.specs.Display as display

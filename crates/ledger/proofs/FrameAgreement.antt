@@ -7,7 +7,7 @@ use mathlib.Core.Option.{Option, some, none}
 use Prim.Native.Nat.{ℕ}
 use lib.ListN.{length}
 use Rattle.rows.specs.declared.Board.{Board}
-use Rattle.board.proofs.WatchLaws.{Fits}
+use Rattle.board.proofs.NameLaws.{Fits}
 use Rattle.link.specs.Closing.{Outcome, acknowledgement, repeats, againFrame, newFrame, dataFrame}
 use Rattle.link.specs.Receiving.{callOf}
 use Rattle.link.specs.Walk.{Walk}

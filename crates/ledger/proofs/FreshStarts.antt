@@ -13,7 +13,8 @@ use Rattle.board.specs.declared.list.Listed.the-variants.{Accepted}
 use Rattle.board.specs.declared.list.Watched.{Watched}
 use Rattle.board.proofs.EntryLaws.{list-good}
 use Rattle.board.proofs.GoodLists.{may-join, good-listed}
-use Rattle.board.proofs.WatchLaws.{good-none, good-more, watch-more, accepted-joins}
+use Rattle.board.proofs.NameLaws.{good-none, good-more}
+use Rattle.board.proofs.WatchLaws.{watch-more, accepted-joins}
 use Rattle.display.specs.Display as display
 use Rattle.display.specs.declared.Display.{Display}
 use Rattle.ledger.specs.Answers.{WatchList, as-bytes, one-by-one, namesIn}

@@ -14,7 +14,7 @@ use Rattle.rows.specs.Entries.{rowShowing, boardShowing}
 use Rattle.rows.specs.Names.{placeFrom}
 use Rattle.rows.specs.Rows.{rowCount, rowName, freshRow}
 use Rattle.rows.specs.declared.Row.{Row}
-use Rattle.board.proofs.WatchLaws.{Fits, fresh-name}
+use Rattle.board.proofs.NameLaws.{Fits, fresh-name}
 use Rattle.display.specs.declared.Display.{Display}
 use Rattle.ledger.specs.Ledger.{Ledger, Entry, unheard, start, rowOf}
 use Rattle.ledger.specs.Answers.{Call}

@@ -15,7 +15,7 @@ use Rattle.board.specs.Reading as reading
 use Rattle.board.specs.Reading.{Verdict, readingOf, readBoard}
 use Rattle.board.specs.declared.reading.Reading as declared-reading
 use Rattle.board.specs.declared.reading.Answer.the-variants as board-says
-use Rattle.board.proofs.WatchLaws.{Fits}
+use Rattle.board.proofs.NameLaws.{Fits}
 use Rattle.board.proofs.EntryLaws.{There, rows-named, showing-watched, read-refused, read-end, read-update, update-there}
 use Rattle.link.specs.Closing.{Outcome, acknowledgement, newFrame}
 use Rattle.link.specs.Receiving.{callOf, withUnreadPacket}

@@ -12,7 +12,7 @@ use Rattle.slices.specs.Put.{putAt}
 use Rattle.frame.specs.Stuffing.{contentMax}
 use Rattle.frame.specs.Reading.{readRun}
 use Rattle.rows.specs.declared.Board.{Board}
-use Rattle.board.proofs.WatchLaws.{Fits}
+use Rattle.board.proofs.NameLaws.{Fits}
 use Rattle.link.specs.Closing.{Outcome, closeOf}
 use Rattle.link.specs.Receiving.{shortCall, walkCall}
 use Rattle.link.specs.Walk.{Walk, walkOf}

@@ -10,7 +10,7 @@ use lib.ListN.{length, length-take, take, drop, length-drop}
 use Rattle.board.specs.declared.list.Watched.{Watched}
 use Rattle.board.specs.WatchList.{watchBoard}
 use Rattle.board.specs.ListSteps.{fieldOf}
-use Rattle.board.proofs.WatchLaws.{good-none}
+use Rattle.board.proofs.NameLaws.{good-none}
 use Rattle.board.proofs.FieldLaws.{Reached, nameAt, field-name, field-none, field-size, reached-bad, reached-refused, reached-next, reached-end}
 use Rattle.slices.proofs.PartLaws.{part-rest}
 use Rattle.board.proofs.list.watch_list.Statement.{statement}

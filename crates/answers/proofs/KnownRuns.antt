@@ -7,28 +7,17 @@ use Prim.Native.Nat.{ℕ}
 use native.Mathlib.Omega.{arith}
 use lib.IntN.{pos}
 use lib.ListN.{replicate}
-use Rattle.slices.specs.Each.{each}
 use Rattle.slices.specs.Same.{sameBytes}
-use Rattle.crc.specs.Crc.{shiftBit, shiftBits, addByte, crcOf}
-use Rattle.frame.specs.Stuffing.{unstuffFrom, unstuff}
-use Rattle.frame.specs.Content.{contentOf, judged}
 use Rattle.frame.specs.Writing as writing
-use Rattle.frame.specs.Writing.{framed}
-use Rattle.frame.specs.Reading.{readRun}
-use Rattle.packet.specs.Names.{between, isLetter, isNameByte, allNameBytes, validName}
-use Rattle.packet.specs.Items.{inFront, itemsUpTo, itemsFilling, emptyIfEof, eofsEmpty, ifEofsEmpty, itemsOf, countOf, headOf, firstOf, behindOf}
-use Rattle.packet.specs.Packet.{isData, withItems, packetOf}
 use Rattle.rows.specs.Entries.{boardShowing}
 use Rattle.rows.specs.Names.{placeFrom}
 use Rattle.rows.specs.Rows.{rowCount}
 use Rattle.rows.specs.declared.Board.{Board}
 use Rattle.rows.specs.declared.State.the-variants.{Current}
-use Rattle.value.specs.Value.{numberOf, valueOf}
-use Rattle.board.specs.Reading.{valueOfItem, withValue, withName, updateOf, verdictOfItems, verdictOf, ifWatched, readingOf}
 use Rattle.link.specs.declared.counts.Counts.{Counts}
 use Rattle.display.specs.declared.Display.{Display}
-use Rattle.ledger.specs.Ledger.{moreAt, updated, start}
-use Rattle.ledger.specs.Frames.{turn, taken, frameOf, good}
+use Rattle.ledger.specs.Ledger.{start}
+use Rattle.ledger.specs.Frames.{good}
 use Rattle.ledger.specs.Answers.{one-by-one, Call, piece, tick}
 use Rattle.ledger.specs.Calls.{step, given, after}
 use Rattle.ledger.specs.Shown.{asCounts, asEntry, Left, asLeft, rowAt}
@@ -41,6 +30,7 @@ use Rattle.ledger.proofs.EveryList.{agreeing, next-call}
 use Rattle.ledger.proofs.AtOnce.{repeated-at-once}
 use Rattle.ledger.proofs.DataCalls.{Dropped}
 use Rattle.ledger.proofs.CurrentWhen.{current-exactly-when}
+use Rattle.answers.proofs.Steps.{packet-steps, frame-steps, ledger-steps}
 
 abbrev h1 : List ℕ
 h1 = 0x68 ∷ 0x31 ∷ []
@@ -76,7 +66,7 @@ record Computed : Type 0 where
   again : asCounts (after (start names) all .line .counts) .again ≡ 1
 
 computed : Computed
-unfolding given history marksFrom framesOf dataSequences lastFrom crcOf addByte shiftBits shiftBit each contentOf framed unstuffFrom unstuff judged readRun turn taken frameOf step after moreAt updated readingOf ifWatched verdictOf withName withValue valueOfItem updateOf verdictOfItems valueOf numberOf placeFrom sameBytes packetOf isData withItems itemsOf ifEofsEmpty itemsFilling itemsUpTo inFront eofsEmpty emptyIfEof countOf firstOf behindOf headOf validName between isLetter isNameByte allNameBytes
+unfolding packet-steps frame-steps ledger-steps given history marksFrom framesOf dataSequences lastFrom
 computed = record { last = refl; closes = refl; state = refl; new = refl; again = refl }
 
 -- THEOREM. Every display that is given these calls drops the second frame: it is answered again, and the board is as it was.

@@ -1,3 +1,4 @@
+pub mod Steps
 pub mod KnownAnswers
 pub mod KnownRuns
 pub mod PacketVerdicts

@@ -4,13 +4,8 @@ use mathlib.Core.Path.{_≡_, refl}
 use mathlib.Core.List.{List, [], _∷_}
 use Prim.Native.Nat.{ℕ}
 use lib.IntN.{pos, negsuc}
-use Rattle.slices.specs.Same.{sameBytes}
-use Rattle.packet.specs.Names.{between, isLetter, isNameByte, allNameBytes, validName}
-use Rattle.packet.specs.Items.{inFront, itemsUpTo, itemsFilling, emptyIfEof, eofsEmpty, ifEofsEmpty, itemsOf, countOf, headOf, firstOf, behindOf}
-use Rattle.packet.specs.Packet.{isData, withItems, packetOf}
-use Rattle.rows.specs.Names.{placeFrom}
-use Rattle.value.specs.Value.{numberOf, valueOf}
-use Rattle.board.specs.Reading.{refused, endMark, update, valueOfItem, withValue, withName, updateOf, verdictOfItems, verdictOf, ifWatched, readingOf}
+use Rattle.board.specs.Reading.{refused, endMark, update, readingOf}
+use Rattle.answers.proofs.Steps.{packet-steps}
 
 abbrev h1 : List ℕ
 h1 = 0x68 ∷ 0x31 ∷ []
@@ -41,5 +36,5 @@ pub readings :
     × (readingOf (h1 ∷ []) (0x01 ∷ 0x0b ∷ 0x00 ∷ 0x00 ∷ []) ≡ refused 11)
     × (readingOf (h1 ∷ []) (updating (0x01 ∷ 0x02 ∷ 0x68 ∷ [])) ≡ refused 10)
     × (readingOf (h1 ∷ []) (0x01 ∷ 0x03 ∷ 0x00 ∷ []) ≡ refused 9)
-unfolding readingOf ifWatched verdictOf withName withValue valueOfItem updateOf verdictOfItems valueOf numberOf placeFrom sameBytes packetOf isData withItems itemsOf ifEofsEmpty itemsFilling itemsUpTo inFront eofsEmpty emptyIfEof countOf firstOf behindOf headOf validName between isLetter isNameByte allNameBytes
+unfolding packet-steps
 readings = (refl, refl, refl, refl, refl, refl, refl, refl, refl, refl, refl)

@@ -12,7 +12,7 @@ use Rattle.slices.proofs.Impossible.{impossible}
 use Rattle.refusals.specs.Numbers.{otherOpcode, badName, badValue, notWatched}
 use Rattle.packet.specs.Names.{between, validName}
 use Rattle.packet.specs.Items.{Item, eofKind, countOf, firstOf, valueBytes, valueIn, behindOf}
-use Rattle.packet.specs.Packet.{Judged, packet, judgedItems}
+use Rattle.packet.specs.Packet.{Judged, judgedItems}
 use Rattle.packet.specs.Packet as judged
 use Rattle.packet.specs.Answers as packet-answers
 use Rattle.packet.specs.declared.reading.Reading.the-variants as packet-reading

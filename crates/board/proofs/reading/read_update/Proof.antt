@@ -38,9 +38,20 @@ tested c = c .valid-name .ensures ∙ ap validName (c .before .value .ensures)
 valid : (c : tie.Else1) → validName (valueIn nameKind (items (c .before .before))) ≡ true
 valid c = sym (tested (c .before)) ∙ not-false (c .before .valid-name .result) (c .if1 .left)
 
--- the packet, where the value item was found
+-- where the function began, seen from past the test of the Name
+abbrev start : tie.Else1 → tie.Start
+start c = c .before .before .before .before
+
+-- where the Name was tested, seen from where the value item was found
+abbrev test-of : tie.After-kind → tie.Else1
+test-of c = c .before .before .before
+
+-- where the value item was found, seen from where its bytes said a number
+abbrev place-of : tie.After-value2 → tie.After-kind
+place-of c = c .before .before .before .before .before
+
 abbrev packet : tie.After-kind → List ℕ
-packet c = let test = c .before .before .before in test .before .before .before .before .args .packet .now
+packet c = start (test-of c) .args .packet .now
 
 -- the value item there
 abbrev value-at : tie.After-kind → Item
@@ -48,7 +59,7 @@ value-at c =
     let given = c .kind .given .0 in
     record { kind = given .0; value = take (given .1 .1 .0) (drop (given .1 .0) (packet c)) }
 
-valued : (c : tie.After-kind) → behindOf nameKind (items (c .before .before .before .before .before)) ≡ some (value-at c)
+valued : (c : tie.After-kind) → behindOf nameKind (items (test-of c .before .before)) ≡ some (value-at c)
 unfolding itemAt
 valued c =
     sym (value-reads (packet c) nameKind .same) ∙ ap (itemAt (packet c)) (sym (c .before .before .behind .ensures) ∙ c .kind .given .1)
@@ -67,18 +78,14 @@ judged c =
     c .read-value .ensures ∙ ap (λ (count : ℕ). asValue (valueOf (given .0) (take count (drop (given .1 .0) (packet place))))) size
 
 -- the value, where they say one
-good : (c : tie.After-value2) → valueOf (value-at (c .before .before .before .before .before) .kind) (value-at (c .before .before .before .before .before) .value) ≡ some (c .value2 .given .0 .0)
+good : (c : tie.After-value2) → valueOf (value-at (place-of c) .kind) (value-at (place-of c) .value) ≡ some (c .value2 .given .0 .0)
 good c =
-    let read = c .before .before in
-    let item = value-at (read .before .before .before) in
-    value-number (valueOf (item .kind) (item .value)) (c .value2 .given .0 .0) (sym (judged read) ∙ c .value2 .given .1)
+    let item = value-at (place-of c) in
+    value-number (valueOf (item .kind) (item .value)) (c .value2 .given .0 .0) (sym (judged (c .before .before)) ∙ c .value2 .given .1)
 
 -- where the Name was read, from where its row is looked for
 abbrev named-at : tie.After-find → tie.After-value
-named-at c =
-    let number = c .before .before in
-    let place = number .before .before .before .before .before in
-    place .before .before .before .before .before
+named-at c = test-of (place-of (c .before .before)) .before .before
 
 -- the row that was looked for has the Name
 looked : (c : tie.After-find) → c .find .result ≡ asPlace (placeOf (valueIn nameKind (items (named-at c))) (rowNames (named-at c .before .before .args .board)))
@@ -119,7 +126,7 @@ unfolding itemAt
 returns-2 c =
     let behind = c .before .before .before in
     let test = behind .before in
-    let args = test .before .before .before .before .args in
+    let args = start test .args in
     let nothing = sym (value-reads (args .packet .now) nameKind .same) ∙ ap (itemAt (args .packet .now)) (sym (behind .behind .ensures) ∙ c .before .enum-told .given .1) in
     c .refused2 .ensures ∙ sym (update-no-value (args .board) (args .id) (items (test .before .before)) (valid test) nothing)
 
@@ -151,8 +158,8 @@ returns-3 : tie.Need-returns-3
 returns-3 c =
     let read = c .before .before .before in
     let place = read .before .before .before in
-    let test = place .before .before .before in
-    let args = test .before .before .before .before .args in
+    let test = test-of place in
+    let args = start test .args in
     let bad = value-bad (valueOf (value-at place .kind) (value-at place .value)) (sym (judged read) ∙ c .before .enum-told2 .given .1) in
     c .refused3 .ensures ∙ sym (update-bad-value (args .board) (args .id) (items (test .before .before)) (valid test) (value-at place) (valued place) bad)
 
@@ -172,9 +179,9 @@ returns-4 : tie.Need-returns-4
 returns-4 c =
     let look = c .before .before .before in
     let number = look .before .before in
-    let place = number .before .before .before .before .before in
-    let test = place .before .before .before in
-    let args = test .before .before .before .before .args in
+    let place = place-of number in
+    let test = test-of place in
+    let args = start test .args in
     let name = valueIn nameKind (items (test .before .before)) in
     let nowhere = place-nowhere (placeOf name (rowNames (args .board))) (sym (looked look) ∙ c .before .enum-told3 .given .1) in
     c .refused4 .ensures
@@ -188,9 +195,9 @@ returns-5 c =
     let row = c .before .before in
     let look = row .before .before in
     let number = look .before .before in
-    let place = number .before .before .before .before .before in
-    let test = place .before .before .before in
-    let args = test .before .before .before .before .args in
+    let place = place-of number in
+    let test = test-of place in
+    let args = start test .args in
     let name = valueIn nameKind (items (test .before .before)) in
     let there = place-row (placeOf name (rowNames (args .board))) (row .row .given .0 .0) (sym (looked look) ∙ row .row .given .1) in
     let back : toZ w64 (ofZ w64 (number .value2 .given .0 .0)) ≡ number .value2 .given .0 .0 = toZ-ofZ (record { sfits = look .before .known-told2 .given .0 .1 }) in

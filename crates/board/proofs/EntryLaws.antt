@@ -34,7 +34,7 @@ pub showing-watched : (es : List Entry) → Fits (map entryName es) → watched 
 showing-watched es h =
     rw (showing-names es (rows-named es h)) (used-first (map entryName es) (rowCount - length es) (none-empty (map entryName es) h))
 
--- 01, The board: of a list that is accepted each name is valid, none stands twice, and there are at most 16
+-- 01, The board: of a list that is accepted each name is valid, none stands twice, and there are no more than rows
 names-good : (skip : ℕ) (names : List (List ℕ)) (rest : List ℕ) (out : List (List ℕ)) → Good rowCount names → namesFrom rowCount skip names rest ≡ some out → Good rowCount out
 unfolding namesFrom
 names-good zero names [] out o e = let same : names ≡ out = cc in rw (← same) o

@@ -65,6 +65,6 @@ all-join before (name ∷ names) good =
     ∙ rw (past, take-append-seam name (fieldsOf names), drop-append-seam name (fieldsOf names), may-join name names before good)
     (all-join (before ++ (name ∷ [])) names (rw behind good) ∙ ap some behind)
 
--- THEOREM. Names of which each is valid, none stands twice and which are at most 16 are the names of the list of their fields.
+-- THEOREM. Names of which each is valid, none stands twice and which are no more than rows are the names of the list of their fields.
 pub good-listed : (names : List (List ℕ)) → Good rowCount names → watchNames rowCount (fieldsOf names) ≡ some names
 good-listed names good = all-join [] names good

@@ -1,5 +1,5 @@
--- 01, The board: "The watch list is stored as tagged fields: one-byte tag, two-byte length (high byte first), value. Tag 01 is a
--- name. At most 16 names, 0 allowed, no name twice; a bad name, another tag or a cut field is refusal 15 too."
+-- 01, The board: the watch list is stored as tagged fields: one-byte tag, two-byte length (high byte first), value. Tag 01 is a name. At
+-- most so many names as there are rows, 0 allowed, no name twice; a bad name, another tag or a cut field is refusal 15 too.
 use Prim.Native.Nat.{ℕ, zero, suc, _/_, _%_, _≤_}
 use mathlib.Core.Path.{_≡_}
 use mathlib.Core.Bool.{Bool, true, cond, not, _&&_}

@@ -1,14 +1,12 @@
 -- What a call handed out stands at the start of the buffers, as long as the answer says: an acknowledgement has at most the nine bytes
 -- that a reply buffer has, and a payload at most the 383 of a packet buffer.
 use mathlib.Core.Path.{_≡_, refl, ap, ap₂}
-use mathlib.Core.Bool.{Bool, true, false, cond, _||_}
+use mathlib.Core.Bool.{Bool, true, false, cond}
 use mathlib.Core.List.{List, [], _∷_}
 use mathlib.Core.Option.{Option, some, none}
 use Prim.Native.Nat.{ℕ, _≤_}
 use native.Mathlib.Omega.{arith}
-use lib.Dec.{ltb}
 use lib.ListN.{length, take}
-use borrow.Author.Tests.{ltb-false}
 use Rattle.slices.specs.Put.{putAt}
 use Rattle.slices.proofs.PutLaws.{put-first}
 use Rattle.link.specs.Closing.{acknowledgement}
@@ -19,10 +17,11 @@ use Rattle.ledger.specs.Frames.{Frame, taken, frameOf}
 use Rattle.ledger.specs.Answers as answers
 use Rattle.ledger.specs.Answers.{Call, Given, Answer}
 use Rattle.ledger.specs.Calls as calls
-use Rattle.ledger.specs.Calls.{Effect, answerTo, repeated, closed, effectOf, withRun, pieceStep, shortStep, step}
+use Rattle.ledger.specs.Calls.{Effect, answerTo, repeated, closed, effectOf, withRun, step}
 use Rattle.ledger.specs.Shown.{asAnswer, asLeft}
 use Rattle.ledger.specs.History.{Handed, as-reply, as-packet, handedAs, handedLeft}
 use Rattle.ledger.proofs.FrameLaws.{payload-bounded}
+use Rattle.ledger.proofs.RoomLaws.{by-room}
 
 -- what the ledger hands out with an answer
 abbrev pub handedBy : Answer → List Handed
@@ -65,14 +64,9 @@ module _ (names : List (List ℕ)) (l : Ledger) (reply packet : List ℕ) (reply
 
 pub step-handed : (names : List (List ℕ)) (l : Ledger) (c : Call) → handedLeft (asLeft names (step l c .given)) ≡ handedIn (step l c .given)
 unfolding step
-step-handed names l (answers.piece bytes reply packet) = by-room (ltb (length reply) 9) (ltb (length packet) 383) refl refl
-  where
-    by-room : (t u : Bool) → ltb (length reply) 9 ≡ t → ltb (length packet) 383 ≡ u
-        → handedLeft (asLeft names (cond (t || u) (shortStep l reply packet) (pieceStep l (taken (l .line .run) bytes 0) reply packet) .given))
-        ≡ handedIn (cond (t || u) (shortStep l reply packet) (pieceStep l (taken (l .line .run) bytes 0) reply packet) .given)
-    by-room true u e f = refl
-    by-room false true e f = refl
-    by-room false false e f =
-        let t = taken (l .line .run) bytes 0 in
-        effect-handed names (withRun l (t .run)) reply packet (ltb-false (length reply) 9 e) (ltb-false (length packet) 383 f) (t .frame)
+step-handed names l (answers.piece bytes reply packet) =
+    let t = taken (l .line .run) bytes 0 in
+    by-room (λ (s : calls.Step). handedLeft (asLeft names (s .given)) ≡ handedIn (s .given)) l bytes reply packet
+    (λ short. refl)
+    (λ reply-room packet-room. effect-handed names (withRun l (t .run)) reply packet reply-room packet-room (t .frame))
 step-handed names l answers.tick = refl

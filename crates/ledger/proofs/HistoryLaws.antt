@@ -1,23 +1,22 @@
 -- The calls' ledger is the history's: a piece is its bytes that were taken, one after the other.
 use mathlib.Core.Path.{_≡_, refl, sym, ap, ap₂, _∙_}
-use mathlib.Core.Bool.{Bool, true, false, cond, _||_}
 use mathlib.Core.List.{List, [], _∷_, _++_, map, append-nil}
 use mathlib.Core.Option.{Option, some, none}
 use Prim.Native.Nat.{ℕ, suc, _-_, _≤_}
 use native.Mathlib.Omega.{arith}
-use lib.Dec.{ltb}
-use lib.ListN.{length, take}
+use lib.ListN.{take}
 use lib.Seq.{take-nil}
 use Rattle.ledger.specs.Ledger.{Ledger}
 use Rattle.ledger.specs.Frames.{Turn, goes-on, closes, turn, Taken, afterTurn, taken, Frame, frameOf}
 use Rattle.ledger.specs.Answers as answers
 use Rattle.ledger.specs.Calls as calls
 use Rattle.ledger.specs.Answers.{Call, Given, Answer}
-use Rattle.ledger.specs.Calls.{effectOf, withRun, pieceStep, shortStep, step, given, after}
+use Rattle.ledger.specs.Calls.{effectOf, withRun, step, given, after}
 use Rattle.ledger.specs.Shown.{asLeft}
 use Rattle.ledger.specs.History.{Event, byte, eventsOf, history}
 use Rattle.ledger.specs.ClosedFrames.{behindTurn, marksFrom, framesOf}
 use Rattle.ledger.proofs.ByEvents.{toldBy, atTurn, afterHistory, toldInHistory, history-append, told-append}
+use Rattle.ledger.proofs.RoomLaws.{by-room}
 
 -- the frames that a piece closed
 abbrev pub closedFrames : Option (List ℕ) → List Frame
@@ -88,15 +87,13 @@ module _ (names : List (List ℕ)) where
 
   step-same : (l : Ledger) (c : Call) → SameStep l c (step l c)
   unfolding step afterHistory toldInHistory
-  step-same l (answers.piece bytes reply packet) = by-room (ltb (length reply) 9 || ltb (length packet) 383)
-    where
-      by-room : (t : Bool)
-          → SameStep l (answers.piece bytes reply packet) (cond t (shortStep l reply packet) (pieceStep l (taken (l .line .run) bytes 0) reply packet))
-      by-room true = record { ledger = refl; told = refl }
-      by-room false =
-          let same = piece-same bytes l 0 in
-          let all : taken (l .line .run) bytes 0 .count - 0 ≡ taken (l .line .run) bytes 0 .count = omega arith in
-          record { ledger = sym (rw all at (same .ledger)); told = sym (rw all at (same .told)) }
+  step-same l (answers.piece bytes reply packet) =
+      by-room (SameStep l (answers.piece bytes reply packet)) l bytes reply packet
+      (λ short. record { ledger = refl; told = refl })
+      (λ reply-room packet-room.
+      let same = piece-same bytes l 0 in
+      let all : taken (l .line .run) bytes 0 .count - 0 ≡ taken (l .line .run) bytes 0 .count = omega arith in
+      record { ledger = sym (rw all at (same .ledger)); told = sym (rw all at (same .told)) })
   step-same l answers.tick = record { ledger = refl; told = refl }
 
   -- the history of a list of calls, by what the ledger gives

@@ -6,6 +6,7 @@ pub mod RowAgreement
 pub mod PacketAgreement
 pub mod FrameAgreement
 pub mod LineLaws
+pub mod RoomLaws
 pub mod StepAgreement
 pub mod PieceAgreement
 pub mod Chain

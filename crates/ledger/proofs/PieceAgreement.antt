@@ -1,13 +1,10 @@
 -- A piece keeps display and ledger in agreement, and gives what the ledger gives: the walk over it reaches the same run, and the frame
 -- that it closes does the same to both.
 use mathlib.Core.Path.{_≡_, refl, ap, ap₂, _∙_, subst⁻¹}
-use mathlib.Core.Bool.{Bool, true, false, cond, _||_}
 use mathlib.Core.List.{List}
 use mathlib.Core.Option.{Option, some, none}
 use Prim.Native.Nat.{ℕ, _≤_}
-use lib.Dec.{ltb}
 use lib.ListN.{length}
-use borrow.Author.Tests.{ltb-true, ltb-false}
 use Rattle.slices.specs.Put.{putAt}
 use Rattle.frame.specs.Stuffing.{contentMax}
 use Rattle.frame.specs.Reading.{readRun}
@@ -20,7 +17,7 @@ use Rattle.link.specs.declared.counts.Counts as link-counts
 use Rattle.link.specs.declared.reader.Ended.{Ended}
 use Rattle.link.specs.declared.receiver.Last.{Last}
 use Rattle.link.proofs.OursLaws.{walk-within}
-use Rattle.link.proofs.ReceivingLaws.{short-reply, short-packet, room-for-both}
+use Rattle.link.proofs.ReceivingLaws.{room-for-both}
 use Rattle.link.proofs.WalkLaws.{walk-length}
 use Rattle.display.specs.Display.{outcomeOf, receivePiece, DisplaysAs}
 use Rattle.display.specs.declared.Answer as display-answer
@@ -29,7 +26,7 @@ use Rattle.display.specs.declared.Received.{Received}
 use Rattle.ledger.specs.Ledger.{Ledger}
 use Rattle.ledger.specs.Frames.{Taken, taken, frameOf}
 use Rattle.ledger.specs.Answers.{piece}
-use Rattle.ledger.specs.Calls.{effectOf, withRun, pieceStep, shortStep, step}
+use Rattle.ledger.specs.Calls.{effectOf, withRun, Step, pieceStep, shortStep, step}
 use Rattle.ledger.specs.Shown.{asCounts, took}
 use Rattle.ledger.proofs.RunAgreement.{Standing, Reached, Agreement}
 use Rattle.ledger.proofs.FrameOutcomes.{asLast, read-by-type, Shows, EffectsOf}
@@ -37,6 +34,7 @@ use Rattle.ledger.proofs.FrameAgreement.{frame-agrees, nothing-agrees}
 use Rattle.ledger.proofs.LineLaws.{run-kept}
 use Rattle.ledger.proofs.WalkAgreement.{agree}
 use Rattle.ledger.proofs.StepAgreement.{Agrees, Gives}
+use Rattle.ledger.proofs.RoomLaws.{by-room, call-short}
 
 effect-run : (l : Ledger) (frame : Option (List ℕ)) → effectOf l frame .ledger .line .run ≡ l .line .run
 effect-run l none = refl
@@ -99,32 +97,17 @@ module _ (names : List (List ℕ)) (fit : Fits names) (l : Ledger) (d : Display)
         agrees = record { ours = a .ours; standing = a .standing; last-is = a .last-is; counts-are = a .counts-are; shows = a .shows };
       })
 
-  -- the step by the two tests of the buffers
-  abbrev Stepped : Received → List ℕ → List ℕ → Bool → Bool → Type 0
-  Stepped result reply₁ packet₁ t u =
-      Gives names (cond (t || u) (shortStep l reply packet) (pieceStep l (taken (l .line .run) bytes 0) reply packet))
-      (took (result .taken) (result .answer) reply₁ packet₁) (result .display)
-
   pub piece-agrees : (result : Received) (reply₁ packet₁ : List ℕ)
       → DisplaysAs (receivePiece d bytes (length reply) (length packet)) reply packet result reply₁ packet₁
       → Gives names (step l (piece bytes reply packet)) (took (result .taken) (result .answer) reply₁ packet₁) (result .display)
-  unfolding step receivePiece
-  piece-agrees result reply₁ packet₁ does = by-reply (ltb (length reply) 9) refl
-    where
-      by-packet : 9 ≤ length reply → (u : Bool) → ltb (length packet) 383 ≡ u → Stepped result reply₁ packet₁ false u
-      by-packet h true f =
-          let is = short-packet (d .link) bytes (length reply) (length packet) h (ltb-true (length packet) 383 f) in
-          short-agrees result reply₁ packet₁ (rw is at does)
-      by-packet h false f =
-          let is = room-for-both (d .link) bytes (length reply) (length packet) h (ltb-false (length packet) 383 f) in
-          long-agrees (taken (l .line .run) bytes 0) (walkOf bytes (d .link .content) (d .link .reader) 0)
-          (agree bytes 0 (d .link .content) (d .link .reader) (l .line .run) (a .ours .whole) (a .ours .within) (a .standing))
-          (walk-length bytes (d .link .content) (d .link .reader) 0 ∙ a .ours .whole)
-          (walk-within bytes (d .link .content) (d .link .reader) 0 (a .ours .whole) (a .ours .within))
-          result reply₁ packet₁ (rw is at does)
-
-      by-reply : (t : Bool) → ltb (length reply) 9 ≡ t → Stepped result reply₁ packet₁ (ltb (length reply) 9) (ltb (length packet) 383)
-      by-reply true e =
-          let is = short-reply (d .link) bytes (length reply) (length packet) (ltb-true (length reply) 9 e) in
-          rw e (short-agrees result reply₁ packet₁ (rw is at does))
-      by-reply false e = rw e (by-packet (ltb-false (length reply) 9 e) (ltb (length packet) 383) refl)
+  unfolding receivePiece
+  piece-agrees result reply₁ packet₁ does =
+      by-room (λ (s : Step). Gives names s (took (result .taken) (result .answer) reply₁ packet₁) (result .display)) l bytes reply packet
+      (λ short. let is = call-short d bytes reply packet short in short-agrees result reply₁ packet₁ (rw is at does))
+      (λ reply-room packet-room.
+      let is = room-for-both (d .link) bytes (length reply) (length packet) reply-room packet-room in
+      long-agrees (taken (l .line .run) bytes 0) (walkOf bytes (d .link .content) (d .link .reader) 0)
+      (agree bytes 0 (d .link .content) (d .link .reader) (l .line .run) (a .ours .whole) (a .ours .within) (a .standing))
+      (walk-length bytes (d .link .content) (d .link .reader) 0 ∙ a .ours .whole)
+      (walk-within bytes (d .link .content) (d .link .reader) 0 (a .ours .whole) (a .ours .within))
+      result reply₁ packet₁ (rw is at does))

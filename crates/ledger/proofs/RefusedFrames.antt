@@ -6,7 +6,6 @@ use mathlib.Core.List.{List, [], _∷_, map}
 use mathlib.Core.Option.{Option, some, none}
 use Prim.Native.Nat.{ℕ, _≤_}
 use lib.ListN.{length, take}
-use borrow.Author.Tests.{le-ltb}
 use Rattle.slices.proofs.Impossible.{impossible}
 use Rattle.slices.specs.Put.{putAt}
 use Rattle.rows.specs.Entries.{boardShowing}
@@ -32,6 +31,7 @@ use Rattle.ledger.proofs.Chain.{Begins, Chain}
 use Rattle.ledger.proofs.EveryList.{Agreeing, agreeing, next-call}
 use Rattle.ledger.proofs.HistoryLaws.{closedFrames}
 use Rattle.ledger.proofs.ClosedCalls.{closes-here}
+use Rattle.ledger.proofs.RoomLaws.{with-room}
 
 -- an effect that is answered by a refusal
 record Kept (l : Ledger) (n : ℕ) (frame : Option (List ℕ)) : Type 0 where
@@ -78,11 +78,6 @@ pub record OffTheLine (n : ℕ) (events further : List Event) (reply packet : Li
   pub board-kept : behind .board ≡ before .board
   pub last-kept : behind .link .last ≡ before .link .last
   pub counts : behind .link .counts ≡ countOf (event.Refused n) (before .link .counts)
-
-with-room : (l : Ledger) (bytes reply packet : List ℕ) → 9 ≤ length reply → 383 ≤ length packet
-    → step l (piece bytes reply packet) ≡ pieceStep l (taken (l .line .run) bytes 0) reply packet
-unfolding step
-with-room l bytes reply packet r p = rw (le-ltb (length reply) 9 r, le-ltb (length packet) 383 p)
 
 module _ (names : List (List ℕ)) (cs : List Call) (left : List Left) (end : Display) (a : Agreeing names cs left end)
     (bytes reply packet : List ℕ) (r : 9 ≤ length reply) (p : 383 ≤ length packet) (n count : ℕ) (reply₁ packet₁ : List ℕ) (end₁ : Display)

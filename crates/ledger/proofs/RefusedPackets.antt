@@ -1,12 +1,11 @@
 -- DEMAND 1 of the display, a packet that the board refuses: the board is as it was, since what it reads is refused before a row is changed,
 -- and the packet is counted as new and as unread.
 use mathlib.Core.Path.{_≡_, refl, ap, _∙_}
-use mathlib.Core.Bool.{Bool, true, false, cond, _||_}
+use mathlib.Core.Bool.{Bool, true, false}
 use mathlib.Core.List.{List, [], _∷_, map}
 use mathlib.Core.Option.{Option, some, none}
 use Prim.Native.Nat.{ℕ}
-use lib.Dec.{ltb}
-use lib.ListN.{length, take}
+use lib.ListN.{take}
 use Rattle.slices.proofs.Impossible.{impossible}
 use Rattle.slices.specs.Put.{putAt}
 use Rattle.rows.specs.Names.{placeOf}
@@ -24,7 +23,7 @@ use Rattle.ledger.specs.Ledger.{Ledger, start}
 use Rattle.ledger.specs.Frames as frames
 use Rattle.ledger.specs.Frames.{Frame, Taken, taken, frameOf}
 use Rattle.ledger.specs.Answers.{WatchList, namesIn, Call, piece}
-use Rattle.ledger.specs.Calls.{answerTo, repeated, closed, effectOf, withRun, pieceStep, shortStep, step, after}
+use Rattle.ledger.specs.Calls.{answerTo, repeated, closed, effectOf, withRun, Step, step, after}
 use Rattle.ledger.specs.Shown.{asAnswer, Left, took, asLeft}
 use Rattle.ledger.specs.History.{Event, byte, history}
 use Rattle.ledger.specs.ClosedFrames.{Closes}
@@ -33,6 +32,7 @@ use Rattle.ledger.proofs.EveryList.{Agreeing, agreeing, next-call}
 use Rattle.ledger.proofs.HistoryLaws.{closedFrames}
 use Rattle.ledger.proofs.ClosedCalls.{closes-here}
 use Rattle.ledger.proofs.DataCalls.{dropped, read-new}
+use Rattle.ledger.proofs.RoomLaws.{by-room}
 
 refused-stays : (board : Board) (v : Verdict) (k : ℕ) → applied board v .answer ≡ board-says.Refused k → applied board v .board ≡ board
 unfolding applied updated
@@ -43,6 +43,10 @@ refused-stays board (reading.update id name value) k e = by-place (placeOf name 
     by-place : (o : Option ℕ) → updated board id value o .answer ≡ board-says.Refused k → updated board id value o .board ≡ board
     by-place (some place) e = impossible cc
     by-place none e = refl
+
+read-unread : (board : Board) (payload : List ℕ) (k : ℕ) → readBoard board payload .answer ≡ board-says.Refused k → readBoard board payload .board ≡ board
+unfolding readBoard
+read-unread board payload k e = refused-stays board (readingOf (watched board) payload) k e
 
 -- a call that answered a new frame closed one
 record NewFound (l : Ledger) (bytes : List ℕ) (count : ℕ) : Type 0 where
@@ -63,22 +67,18 @@ module _ (names : List (List ℕ)) (l : Ledger) (bytes reply packet : List ℕ) 
       record { sequence = sequence; payload = payload; counted = counted; closes = ap closedFrames e ∙ ap (λ (f : Frame). f ∷ []) is }
 
   new-found : took count (New m size answer) reply₁ packet₁ ≡ asLeft names (step l (piece bytes reply packet) .given) → NewFound l bytes count
-  unfolding step
-  new-found = by-room (ltb (length reply) 9 || ltb (length packet) 383)
+  new-found =
+      by-room (λ (s : Step). took count (New m size answer) reply₁ packet₁ ≡ asLeft names (s .given) → NewFound l bytes count) l bytes reply packet
+      (λ short said. impossible cc)
+      (λ reply-room packet-room said.
+      let counted : count ≡ t .count = cc in
+      let answered : New m size answer ≡ asAnswer names (effectOf (withRun l (t .run)) (t .frame) .answer) = cc in
+      by-frame (t .frame) refl counted answered)
     where
       by-frame : (frame : Option (List ℕ)) → t .frame ≡ frame → count ≡ t .count
           → New m size answer ≡ asAnswer names (effectOf (withRun l (t .run)) frame .answer) → NewFound l bytes count
       by-frame none e counted said = impossible cc
       by-frame (some run) e counted said = frame-found run e counted (frameOf run) refl said
-
-      by-room : (short : Bool)
-          → took count (New m size answer) reply₁ packet₁ ≡ asLeft names (cond short (shortStep l reply packet) (pieceStep l t reply packet) .given)
-          → NewFound l bytes count
-      by-room true said = impossible cc
-      by-room false said =
-          let counted : count ≡ t .count = cc in
-          let answered : New m size answer ≡ asAnswer names (effectOf (withRun l (t .run)) (t .frame) .answer) = cc in
-          by-frame (t .frame) refl counted answered
 
 -- a packet that the board refused: its frame is closed and new, acknowledgement and payload are handed out, the board is as it was, and it
 -- is counted as new and as unread
@@ -90,10 +90,6 @@ pub record Unread (events further : List Event) (reply packet : List ℕ) (befor
   pub handed-up : packet₁ ≡ putAt packet 0 payload
   pub board-kept : behind .board ≡ before .board
   pub counts : behind .link .counts ≡ countOf event.Unread (countOf event.New (before .link .counts))
-
-read-unread : (board : Board) (payload : List ℕ) (k : ℕ) → readBoard board payload .answer ≡ board-says.Refused k → readBoard board payload .board ≡ board
-unfolding readBoard
-read-unread board payload k e = refused-stays board (readingOf (watched board) payload) k e
 
 -- THEOREM. After every list of calls: where the next call is answered by a new packet that the board refused, the board is as it was.
 pub refused-packet : (names : List (List ℕ)) (w : WatchList) → namesIn w ≡ some names → (d : Display) → Begins w d

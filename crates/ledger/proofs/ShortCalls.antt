@@ -1,15 +1,11 @@
 -- DEMAND 1 of the display, a short buffer: the call does not look at the piece, and leaves all as it was.
 use mathlib.Core.Path.{_≡_, refl}
-use mathlib.Core.Bool.{Bool, true, false}
 use mathlib.Core.List.{List, [], _∷_}
-use mathlib.Core.Logic.{_⊎_, inl, inr}
+use mathlib.Core.Logic.{_⊎_}
 use Prim.Native.Nat.{ℕ, _<_}
-use lib.Dec.{ltb}
 use lib.ListN.{length}
-use borrow.Author.Tests.{ltb-true, ltb-false}
 use Rattle.refusals.specs.Numbers.{shortOutput}
-use Rattle.link.specs.Receiving.{receiveOf, shortCall}
-use Rattle.link.proofs.ReceivingLaws.{short-reply, short-packet}
+use Rattle.link.specs.Receiving.{shortCall}
 use Rattle.display.specs.Display.{outcomeOf, receivePiece, DisplaysAs}
 use Rattle.display.specs.declared.Answer.the-variants.{Refused}
 use Rattle.display.specs.declared.Display.{Display}
@@ -17,15 +13,7 @@ use Rattle.display.specs.declared.Received.{Received}
 use Rattle.ledger.specs.Answers.{piece}
 use Rattle.ledger.specs.Shown.{Left, took}
 use Rattle.ledger.proofs.Chain.{Chain, done, receives, received}
-
-call-short : (d : Display) (bytes reply packet : List ℕ) → (length reply < 9) ⊎ (length packet < 383)
-    → receiveOf (d .link) bytes (length reply) (length packet) ≡ shortCall (d .link)
-call-short d bytes reply packet (inl few) = short-reply (d .link) bytes (length reply) (length packet) few
-call-short d bytes reply packet (inr few) = by-reply (ltb (length reply) 9) refl
-  where
-    by-reply : (t : Bool) → ltb (length reply) 9 ≡ t → receiveOf (d .link) bytes (length reply) (length packet) ≡ shortCall (d .link)
-    by-reply true e = short-reply (d .link) bytes (length reply) (length packet) (ltb-true (length reply) 9 e)
-    by-reply false e = short-packet (d .link) bytes (length reply) (length packet) (ltb-false (length reply) 9 e) few
+use Rattle.ledger.proofs.RoomLaws.{call-short}
 
 short-done : (d : Display) (reply packet : List ℕ) (result : Received) (reply₁ packet₁ : List ℕ)
     → DisplaysAs (outcomeOf (d .board) (shortCall (d .link))) reply packet result reply₁ packet₁

@@ -12,7 +12,8 @@ use Rattle.display.specs.Display.{keepBoard, received, resultOf, outcome
 use Rattle.display.specs.declared.Answer.{Answer}
 use Rattle.display.specs.declared.Received.{Received}
 use Rattle.display.proofs.LengthLaws.{whole-link}
-use Rattle.display.proofs.DisplayLaws.{Handed, receive-handed, kept, handed-up, packet-part}
+use Rattle.display.proofs.HandedLaws.{Handed, receive-handed, packet-part}
+use Rattle.display.proofs.DisplayLaws.{kept, handed-up}
 use borrow.Author.Needs.{needs}
 use Rattle.display.proofs.receive.Statement.{statement}
 use Rattle.display.proofs.receive.Tie as tie

@@ -1,31 +1,19 @@
 -- The known answers hold: both columns of the table compute to the same.
 use mathlib.Core.Path.{_≡_, refl}
 use mathlib.Core.List.{map}
-use Rattle.slices.specs.Each.{each}
-use Rattle.slices.specs.Same.{sameBytes}
 use Rattle.slices.specs.Written.{fitted}
-use Rattle.crc.specs.Crc.{shiftBit, shiftBits, addByte, crcOf}
-use Rattle.frame.specs.Stuffing.{unstuffFrom, unstuff}
-use Rattle.frame.specs.Content.{contentOf, judged}
-use Rattle.frame.specs.Writing.{framed, writeContent, writeFrame}
-use Rattle.frame.specs.Reading.{readRun, firstFlag, flaggedBytes, readFrame}
-use Rattle.packet.specs.Names.{between, isLetter, isNameByte, allNameBytes, validName}
-use Rattle.packet.specs.Items.{inFront, itemsUpTo, itemsFilling, emptyIfEof, eofsEmpty, ifEofsEmpty, itemsOf, countOf, headOf, firstOf, behindOf}
-use Rattle.packet.specs.Packet.{isData, withItems, packetOf}
-use Rattle.rows.specs.Names.{placeFrom, used}
+use Rattle.frame.specs.Writing.{writeContent, writeFrame}
+use Rattle.frame.specs.Reading.{firstFlag, flaggedBytes, readFrame}
+use Rattle.rows.specs.Names.{used}
 use Rattle.rows.specs.Rows.{changeAt}
-use Rattle.value.specs.Value.{numberOf, valueOf}
-use Rattle.board.specs.Reading.{taskOfItems, taskOf, valueOfItem, withValue, withName, verdictOf, ifWatched, readingOf, updated, applied, readBoard}
+use Rattle.board.specs.Reading.{updated, applied, readBoard}
 use Rattle.link.specs.Reader.{stepOf}
 use Rattle.link.specs.Walk.{turnOf, walkOf}
 use Rattle.link.specs.Closing.{acknowledgement, dataFrame, frameOutcome}
 use Rattle.link.specs.Receiving.{walkCall, receiveOf}
 use Rattle.display.specs.Display.{receivePiece}
-use Rattle.ledger.specs.Ledger as ledger
-use Rattle.ledger.specs.Ledger.{moreAt}
-use Rattle.ledger.specs.Frames.{turn, taken, frameOf}
-use Rattle.ledger.specs.Calls.{step, after}
 use Rattle.answers.specs.Table.{Case, Result, table}
+use Rattle.answers.proofs.Steps.{packet-steps, frame-steps, ledger-steps}
 
 abbrev computed : Case → Result
 computed c = c .computed
@@ -34,5 +22,5 @@ abbrev answer : Case → Result
 answer c = c .answer
 
 pub known-answers : map computed table ≡ map answer table
-unfolding crcOf addByte shiftBits shiftBit each contentOf framed fitted writeContent writeFrame unstuffFrom unstuff judged readRun turn taken frameOf step after moreAt ledger.updated readFrame flaggedBytes firstFlag acknowledgement receivePiece receiveOf walkCall walkOf turnOf stepOf frameOutcome dataFrame readBoard applied updated used changeAt readingOf ifWatched verdictOf withName withValue valueOfItem taskOf taskOfItems valueOf numberOf placeFrom sameBytes packetOf isData withItems itemsOf ifEofsEmpty itemsFilling itemsUpTo inFront eofsEmpty emptyIfEof countOf firstOf behindOf headOf validName between isLetter isNameByte allNameBytes
+unfolding packet-steps frame-steps ledger-steps fitted writeContent writeFrame readFrame flaggedBytes firstFlag acknowledgement receivePiece receiveOf walkCall walkOf turnOf stepOf frameOutcome dataFrame readBoard applied updated used changeAt
 known-answers = refl

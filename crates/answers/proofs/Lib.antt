@@ -3,3 +3,5 @@ pub mod KnownAshFrames
 pub mod KnownChecks
 pub mod KnownRuns
 pub mod KnownValues
+pub mod PacketVerdicts
+pub mod Steps

@@ -1,5 +1,5 @@
 -- 01, Known answers: each case as the definitions that the contracts cite compute it, beside the answer that 01 gives.
-use Prim.Native.Nat.{ℕ, zero, suc}
+use Prim.Native.Nat.{ℕ, zero, suc, _-_}
 use mathlib.Core.List.{List, [], _∷_, map}
 use mathlib.Core.Option.{Option, some}
 use lib.IntN.{ℤ, pos, negsuc}
@@ -10,7 +10,7 @@ use Rattle.slices.specs.Written.{Output, written}
 use Rattle.frame.specs.Writing.{writeFrame}
 use Rattle.frame.specs.Reading.{readFrame}
 use Rattle.link.specs.Closing.{acknowledgement}
-use Rattle.rows.specs.Rows.{boardOf, updateBoard, tickBoard}
+use Rattle.rows.specs.Rows.{rowCount, boardOf, updateBoard, tickBoard}
 use Rattle.rows.specs.declared.Board.{Board}
 use Rattle.rows.specs.declared.Row as row
 use Rattle.rows.specs.declared.State.{State}
@@ -79,9 +79,13 @@ statesOf board = map rowState (board .rows)
 abbrev outcome : Outcome → Result
 outcome o = displayed (o .result .answer) (o .reply) (statesOf (o .result .display .board))
 
+-- nothing came yet for the rows behind the first
+abbrev others : List State
+others = replicate (rowCount - 1) Never
+
 -- a board right after an update of h1
 abbrev justUpdated : Board
-justUpdated = updateBoard 0 (pos 1) (boardOf (h1 ∷ []))
+justUpdated = updateBoard 0 (pos 1) (boardOf rowCount (h1 ∷ []))
 
 -- the board after so many ticks
 abbrev ticked : ℕ → Board → Board
@@ -101,17 +105,17 @@ table =
     ∷ given 3 (bytes (acknowledgement 0x00)) (bytes (0x7e ∷ 0x02 ∷ 0x00 ∷ 0x7b ∷ 0x6d ∷ 0x7e ∷ []))
     ∷ given 4 (bytes (acknowledgement 0x7d)) (bytes (0x7e ∷ 0x02 ∷ 0x7d ∷ 0x5d ∷ 0xd4 ∷ 0x57 ∷ 0x7e ∷ []))
     ∷ given 5 (check (crcOf linkStart [])) (check 0xffff)
-    ∷ given 6 (rows (map shown (after (start (h1 ∷ h2 ∷ [])) (piece frame6 (replicate 9 0) (replicate 383 0) ∷ []) .entries)))
+    ∷ given 6 (rows (map shown (after (start (h1 ∷ h2 ∷ [])) (piece frame6 (replicate 9 0) (replicate 383 0) ∷ []) .hives .entries)))
     (rows (current (pos 3450) 0 ∷ never ∷ []))
-    ∷ given 6 (outcome (receivePiece (fresh (boardOf (h1 ∷ h2 ∷ []))) frame6 9 383))
-    (displayed (New 6 14 (board.the-variants.Updated 0)) (0x7e ∷ 0x02 ∷ 0x00 ∷ 0x7b ∷ 0x6d ∷ 0x7e ∷ []) (Current (pos 3450) 0 ∷ replicate 15 Never))
+    ∷ given 6 (outcome (receivePiece (fresh (boardOf rowCount (h1 ∷ h2 ∷ []))) frame6 9 383))
+    (displayed (New 6 14 (board.the-variants.Updated 0 0)) (0x7e ∷ 0x02 ∷ 0x00 ∷ 0x7b ∷ 0x6d ∷ 0x7e ∷ []) (Current (pos 3450) 0 ∷ others))
     ∷ given 7 (value (valueOf 0x02 (0xff ∷ 0x38 ∷ []))) (value (some (negsuc 199)))
     ∷ given 7 (value (valueOf 0x02 (0x80 ∷ []))) (value (some (negsuc 127)))
     ∷ given 8 (value (valueOf 0x16 (0x00 ∷ 0x00 ∷ 0x26 ∷ 0x90 ∷ []))) (value (some (pos 9872)))
-    ∷ given 9 (packet-read (readBoard (boardOf (h1 ∷ [])) (valued (0x02 ∷ 0x03 ∷ 0x00 ∷ 0x00 ∷ 0x01 ∷ [])) .answer))
+    ∷ given 9 (packet-read (readBoard (boardOf rowCount (h1 ∷ [])) (valued (0x02 ∷ 0x03 ∷ 0x00 ∷ 0x00 ∷ 0x01 ∷ [])) .answer))
     (packet-read (board.the-variants.Refused 13))
     ∷ given 10 (rows (rowOf (some (record { value = pos 1; ticks = 29 })) ∷ rowOf (older (some (record { value = pos 1; ticks = 29 }))) ∷ []))
     (rows (current (pos 1) 29 ∷ silent ∷ []))
-    ∷ given 10 (states (statesOf (ticked 29 justUpdated))) (states (Current (pos 1) 29 ∷ replicate 15 Never))
-    ∷ given 10 (states (statesOf (ticked 30 justUpdated))) (states (Silent ∷ replicate 15 Never))
+    ∷ given 10 (states (statesOf (ticked 29 justUpdated))) (states (Current (pos 1) 29 ∷ others))
+    ∷ given 10 (states (statesOf (ticked 30 justUpdated))) (states (Silent ∷ others))
     ∷ []

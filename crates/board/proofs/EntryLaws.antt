@@ -20,9 +20,9 @@ use Rattle.rows.specs.declared.Board.{Board}
 use Rattle.rows.proofs.NameLaws.{in-used, empty-unused, used-first}
 use Rattle.rows.proofs.EntryLaws.{Named, showing-names}
 use Rattle.board.specs.WatchList.{Good, mayJoin, isWhole, namesFrom, watchNames}
-use Rattle.board.specs.Reading.{Verdict, refused, endMark, update, taskOf, verdictOf, ifWatched, readingOf, refusedWith, updated, applied, readBoard}
+use Rattle.board.specs.Reading.{Verdict, refused, endMark, update, verdictOf, ifWatched, readingOf, refusedWith, updated, applied, readBoard}
 use Rattle.board.specs.declared.reading.Answer.the-variants.{Updated, EndMark}
-use Rattle.board.proofs.WatchLaws.{Fits, none-empty, fresh-name, good-none, good-more}
+use Rattle.board.proofs.NameLaws.{Fits, none-empty, fresh-name, good-none, good-more}
 
 -- the rows of a board that shows entries have their names
 pub rows-named : (es : List Entry) → Fits (map entryName es) → Named es
@@ -30,28 +30,28 @@ rows-named [] h = refl
 rows-named (e ∷ es) h = ap₂ (λ (n : List ℕ) (l : List (List ℕ)). n ∷ l) (fresh-name (e .name) (h .0)) (rows-named es (h .1))
 
 -- these are the names that it watches
-pub showing-watched : (es : List Entry) → Fits (map entryName es) → watched (boardShowing es) ≡ map entryName es
+pub showing-watched : (es : List Entry) → Fits (map entryName es) → watched (boardShowing rowCount es) ≡ map entryName es
 showing-watched es h =
     rw (showing-names es (rows-named es h)) (used-first (map entryName es) (rowCount - length es) (none-empty (map entryName es) h))
 
--- 01, The board: of a list that is accepted each name is valid, none stands twice, and there are at most 16
-names-good : (skip : ℕ) (names : List (List ℕ)) (rest : List ℕ) (out : List (List ℕ)) → Good names → namesFrom skip names rest ≡ some out → Good out
+-- 01, The board: of a list that is accepted each name is valid, none stands twice, and there are no more than rows
+names-good : (skip : ℕ) (names : List (List ℕ)) (rest : List ℕ) (out : List (List ℕ)) → Good rowCount names → namesFrom rowCount skip names rest ≡ some out → Good rowCount out
 unfolding namesFrom
 names-good zero names [] out o e = let same : names ≡ out = cc in rw (← same) o
 names-good zero names (tag ∷ []) out o e = impossible cc
 names-good zero names (tag ∷ high ∷ []) out o e = impossible cc
 names-good zero names (tag ∷ high ∷ low ∷ rest) out o e =
-    cases (isWhole tag (pairOf high low) rest && mayJoin names (take (pairOf high low) rest)) refl
+    cases (isWhole tag (pairOf high low) rest && mayJoin rowCount names (take (pairOf high low) rest)) refl
     (λ more next. names-good (pairOf high low) (names ++ (take (pairOf high low) rest ∷ [])) rest out more next) e
   where
-    cases : (t : Bool) → (isWhole tag (pairOf high low) rest && mayJoin names (take (pairOf high low) rest)) ≡ t → (Good (names ++ (take (pairOf high low) rest ∷ [])) → namesFrom (pairOf high low) (names ++ (take (pairOf high low) rest ∷ [])) rest ≡ some out → Good out) → cond t (namesFrom (pairOf high low) (names ++ (take (pairOf high low) rest ∷ [])) rest) none ≡ some out → Good out
+    cases : (t : Bool) → (isWhole tag (pairOf high low) rest && mayJoin rowCount names (take (pairOf high low) rest)) ≡ t → (Good rowCount (names ++ (take (pairOf high low) rest ∷ [])) → namesFrom rowCount (pairOf high low) (names ++ (take (pairOf high low) rest ∷ [])) rest ≡ some out → Good rowCount out) → cond t (namesFrom rowCount (pairOf high low) (names ++ (take (pairOf high low) rest ∷ [])) rest) none ≡ some out → Good rowCount out
     cases true h below e =
-        below (good-more names (take (pairOf high low) rest) o (both (isWhole tag (pairOf high low) rest) (mayJoin names (take (pairOf high low) rest)) h .second)) e
+        below (good-more names (take (pairOf high low) rest) o (both (isWhole tag (pairOf high low) rest) (mayJoin rowCount names (take (pairOf high low) rest)) h .second)) e
     cases false h below e = impossible cc
 names-good (suc skip) names [] out o e = impossible cc
 names-good (suc skip) names (byte ∷ rest) out o e = names-good skip names rest out o e
 
-pub list-good : (fields : List ℕ) (names : List (List ℕ)) → watchNames fields ≡ some names → Good names
+pub list-good : (fields : List ℕ) (names : List (List ℕ)) → watchNames rowCount fields ≡ some names → Good rowCount names
 list-good fields names e = names-good 0 [] fields names good-none e
 
 -- an accepted update has a row to change
@@ -70,13 +70,13 @@ there board (byte ∷ bytes) e =
     cases none h s = impossible cc
 
 -- only a watched name is updated
-update-watched : (names : List (List ℕ)) (v : Verdict) (name : List ℕ) (value : ℤ) → ifWatched names v ≡ update name value → isIn name names ≡ true
+update-watched : (names : List (List ℕ)) (v : Verdict) (id : ℕ) (name : List ℕ) (value : ℤ) → ifWatched names v ≡ update id name value → isIn name names ≡ true
 unfolding ifWatched
-update-watched names (refused number) name value e = impossible cc
-update-watched names endMark name value e = impossible cc
-update-watched names (update found number) name value e = cases (isIn found names) refl e
+update-watched names (refused number) id name value e = impossible cc
+update-watched names (endMark found) id name value e = impossible cc
+update-watched names (update found-id found number) id name value e = cases (isIn found names) refl e
   where
-    cases : (t : Bool) → isIn found names ≡ t → cond t (update found number) (refused notWatched) ≡ update name value → isIn name names ≡ true
+    cases : (t : Bool) → isIn found names ≡ t → cond t (update found-id found number) (refused notWatched) ≡ update id name value → isIn name names ≡ true
     cases true h e = let same : found ≡ name = cc in rw (← same) h
     cases false h e = impossible cc
 
@@ -87,16 +87,16 @@ module _ (board : Board) (bytes : List ℕ) where
   read-refused number e = rw e
 
   -- an end mark leaves the board as it was
-  pub read-end : readingOf (watched board) bytes ≡ endMark → readBoard board bytes ≡ record { board = board; answer = EndMark }
+  pub read-end : (id : ℕ) → readingOf (watched board) bytes ≡ endMark id → readBoard board bytes ≡ record { board = board; answer = EndMark id }
   unfolding readBoard applied
-  read-end e = rw e
+  read-end id e = rw e
 
   -- an update is answered by the place of its name's row
-  pub read-update : (name : List ℕ) (value : ℤ) (place : ℕ) → readingOf (watched board) bytes ≡ update name value → placeOf name (rowNames board) ≡ some place → readBoard board bytes ≡ record { board = updateBoard place value board; answer = Updated place }
+  pub read-update : (id : ℕ) (name : List ℕ) (value : ℤ) (place : ℕ) → readingOf (watched board) bytes ≡ update id name value → placeOf name (rowNames board) ≡ some place → readBoard board bytes ≡ record { board = updateBoard place value board; answer = Updated place id }
   unfolding readBoard applied updated
-  read-update name value place e stands = rw (e, stands)
+  read-update id name value place e stands = rw (e, stands)
 
   -- and a name that is updated has a row
-  pub update-there : (name : List ℕ) (value : ℤ) → readingOf (watched board) bytes ≡ update name value → There board name
+  pub update-there : (id : ℕ) (name : List ℕ) (value : ℤ) → readingOf (watched board) bytes ≡ update id name value → There board name
   unfolding readingOf
-  update-there name value e = there board name (update-watched (watched board) (verdictOf (taskOf (packetOf bytes))) name value e)
+  update-there id name value e = there board name (update-watched (watched board) (verdictOf (packetOf bytes)) id name value e)

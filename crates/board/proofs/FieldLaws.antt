@@ -12,23 +12,25 @@ use borrow.Author.Tests.{leb-true}
 use Rattle.slices.proofs.Impossible.{impossible}
 use Rattle.slices.specs.HighFirst.{pairOf}
 use Rattle.slices.proofs.TestLaws.{both}
-use Rattle.rows.specs.Rows.{boardOf}
-use Rattle.board.specs.WatchList.{Good, mayJoin, isWhole, namesFrom, watchNames, fieldOf, asField, watchBoard, acceptedWith, asWatched}
+use Rattle.rows.specs.Rows.{rowCount, boardOf}
+use Rattle.board.specs.WatchList.{Good, mayJoin, isWhole, namesFrom, watchNames, watchBoard, acceptedWith, asWatched}
+use Rattle.board.specs.ListSteps.{fieldOf, asField}
 use Rattle.board.specs.declared.list.Field.the-variants.{Name, Bad}
 use Rattle.board.specs.declared.list.Listed.the-variants.{Accepted, Refused}
 use Rattle.board.specs.declared.list.Watched.{Watched}
 use Rattle.rows.specs.declared.Board.{Board}
-use Rattle.board.proofs.WatchLaws.{good-more, watch-more, accepted-joins, refused-stays}
+use Rattle.board.proofs.NameLaws.{good-more}
+use Rattle.board.proofs.WatchLaws.{watch-more, accepted-joins, refused-stays}
 
 -- the bytes of a name that has joined are passed over
-skipped : (n : ℕ) (names : List (List ℕ)) (rest : List ℕ) → n ≤ length rest → namesFrom n names rest ≡ namesFrom 0 names (drop n rest)
+skipped : (n : ℕ) (names : List (List ℕ)) (rest : List ℕ) → n ≤ length rest → namesFrom rowCount n names rest ≡ namesFrom rowCount 0 names (drop n rest)
 unfolding namesFrom
 skipped zero names rest h = refl
 skipped (suc n) names [] h = absurd (omega arith)
 skipped (suc n) names (byte ∷ rest) h = skipped n names rest (omega arith)
 
 -- where the fields begin with no whole name, the list is refused
-pub field-bad : (names : List (List ℕ)) (rest : List ℕ) → 0 < length rest → fieldOf rest ≡ none → namesFrom 0 names rest ≡ none
+pub field-bad : (names : List (List ℕ)) (rest : List ℕ) → 0 < length rest → fieldOf rest ≡ none → namesFrom rowCount 0 names rest ≡ none
 unfolding namesFrom fieldOf
 field-bad names [] h e = absurd (omega arith)
 field-bad names (tag ∷ []) h e = refl
@@ -56,7 +58,7 @@ field-size (tag ∷ high ∷ low ∷ rest) size e =
     omega arith
 
 -- 01, The board: the name joins, and the rest of the list is read by the same rule
-pub field-next : (names : List (List ℕ)) (fields : List ℕ) (size : ℕ) → fieldOf fields ≡ some size → namesFrom 0 names fields ≡ cond (mayJoin names (take size (drop 3 fields))) (namesFrom 0 (names ++ (take size (drop 3 fields) ∷ [])) (drop (size + 3) fields)) none
+pub field-next : (names : List (List ℕ)) (fields : List ℕ) (size : ℕ) → fieldOf fields ≡ some size → namesFrom rowCount 0 names fields ≡ cond (mayJoin rowCount names (take size (drop 3 fields))) (namesFrom rowCount 0 (names ++ (take size (drop 3 fields) ∷ [])) (drop (size + 3) fields)) none
 unfolding fieldOf namesFrom
 field-next names [] size e = impossible cc
 field-next names (tag ∷ []) size e = impossible cc
@@ -96,9 +98,9 @@ field-none none e = refl
 pub record Reached (fields : List ℕ) (board : Board) (at : ℕ) : Type 0 where
   pub within : at ≤ length fields
   pub names : List (List ℕ)
-  pub good : Good names
-  pub is : board ≡ boardOf names
-  pub still : namesFrom 0 names (drop at fields) ≡ watchNames fields
+  pub good : Good rowCount names
+  pub is : board ≡ boardOf rowCount names
+  pub still : namesFrom rowCount 0 names (drop at fields) ≡ watchNames rowCount fields
 
 -- the name in the field at the place at
 abbrev pub nameAt : List ℕ → ℕ → ℕ → List ℕ
@@ -106,13 +108,13 @@ nameAt fields at size = take size (drop 3 (drop at fields))
 
 module _ (fields : List ℕ) (board : Board) (at : ℕ) (r : Reached fields board at) where
   -- a field that is no name refuses the list
-  pub reached-bad : at < length fields → fieldOf (drop at fields) ≡ none → watchNames fields ≡ none
+  pub reached-bad : at < length fields → fieldOf (drop at fields) ≡ none → watchNames rowCount fields ≡ none
   reached-bad more bad =
       let left : 0 < length (drop at fields) = simp length-drop (omega arith) in
       sym (r .still) ∙ field-bad (r .names) (drop at fields) left bad
 
   -- so does a name that is refused
-  pub reached-refused : (size number : ℕ) → fieldOf (drop at fields) ≡ some size → watchBoard board (nameAt fields at size) .answer ≡ Refused number → watchNames fields ≡ none
+  pub reached-refused : (size number : ℕ) → fieldOf (drop at fields) ≡ some size → watchBoard board (nameAt fields at size) .answer ≡ Refused number → watchNames rowCount fields ≡ none
   reached-refused size number field refused =
       let stays = refused-stays (r .names) (nameAt fields at size) number (r .good) (rw (r .is) at refused) in
       sym (r .still) ∙ field-next (r .names) (drop at fields) size field ∙ rw stays
@@ -134,9 +136,9 @@ module _ (fields : List ℕ) (board : Board) (at : ℕ) (r : Reached fields boar
       }
 
   -- at the end the board is that of the whole list
-  pub reached-end : length fields ≤ at → acceptedWith board ≡ asWatched (watchNames fields)
+  pub reached-end : length fields ≤ at → acceptedWith board ≡ asWatched (watchNames rowCount fields)
   unfolding namesFrom
   reached-end ended =
       let nothing : drop at fields ≡ [] = drop-of-length-le fields ended in
-      let all : some (r .names) ≡ watchNames fields = rw nothing at (r .still) in
+      let all : some (r .names) ≡ watchNames rowCount fields = rw nothing at (r .still) in
       rw (← all) (ap acceptedWith (r .is))

@@ -16,7 +16,8 @@ use Rattle.packet.specs.Names.{validName}
 use Rattle.rows.specs.Names.{placeFrom, isIn}
 use Rattle.rows.specs.Rows.{rowCount}
 use Rattle.rows.proofs.NameLaws.{in-shift, not-in, differ}
-use Rattle.board.specs.WatchList.{Good, allValid, distinct, mayJoin, namesFrom, watchNames, nameField, fieldsOf, fieldOf}
+use Rattle.board.specs.WatchList.{Good, allValid, distinct, mayJoin, namesFrom, watchNames, nameField, fieldsOf}
+use Rattle.board.specs.ListSteps.{fieldOf}
 use Rattle.board.proofs.FieldLaws.{field-next}
 
 module _ (name : List ℕ) (later : List (List ℕ)) where
@@ -40,7 +41,7 @@ module _ (name : List ℕ) (later : List (List ℕ)) where
       rw differs (in-shift name before 1 0 ∙ new-there before (parts .second))
 
   -- so each name of a good list may join those before it
-  pub may-join : (before : List (List ℕ)) → Good (before ++ (name ∷ later)) → mayJoin before name ≡ true
+  pub may-join : (before : List (List ℕ)) → Good rowCount (before ++ (name ∷ later)) → mayJoin rowCount before name ≡ true
   unfolding mayJoin
   may-join before good =
       let few : length before < rowCount = omega (arith, good .few, length-append before (name ∷ later)) in
@@ -54,7 +55,7 @@ module _ (name : List ℕ) (later : List (List ℕ)) where
       let fits : length name ≤ length (name ++ fieldsOf later) = omega (arith, length-append name (fieldsOf later)) in
       rw (size, le-leb (length name) (length (name ++ fieldsOf later)) fits)
 
-all-join : (before names : List (List ℕ)) → Good (before ++ names) → namesFrom 0 before (fieldsOf names) ≡ some (before ++ names)
+all-join : (before names : List (List ℕ)) → Good rowCount (before ++ names) → namesFrom rowCount 0 before (fieldsOf names) ≡ some (before ++ names)
 unfolding namesFrom fieldsOf
 all-join before [] good = ap some (sym (append-nil before))
 all-join before (name ∷ names) good =
@@ -64,6 +65,6 @@ all-join before (name ∷ names) good =
     ∙ rw (past, take-append-seam name (fieldsOf names), drop-append-seam name (fieldsOf names), may-join name names before good)
     (all-join (before ++ (name ∷ [])) names (rw behind good) ∙ ap some behind)
 
--- THEOREM. Names of which each is valid, none stands twice and which are at most 16 are the names of the list of their fields.
-pub good-listed : (names : List (List ℕ)) → Good names → watchNames (fieldsOf names) ≡ some names
+-- THEOREM. Names of which each is valid, none stands twice and which are no more than rows are the names of the list of their fields.
+pub good-listed : (names : List (List ℕ)) → Good rowCount names → watchNames rowCount (fieldsOf names) ≡ some names
 good-listed names good = all-join [] names good

@@ -1,6 +1,6 @@
 pub mod EntryLaws
 pub mod FieldLaws
 pub mod GoodLists
-pub mod KnownAnswers
+pub mod NameLaws
 pub mod ReadingLaws
 pub mod WatchLaws

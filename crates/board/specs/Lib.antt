@@ -1,2 +1,4 @@
+pub mod ListSteps
 pub mod Reading
+pub mod ReadingSteps
 pub mod WatchList

@@ -1,5 +1,5 @@
--- 01, The board: "The watch list is stored as tagged fields: one-byte tag, two-byte length (high byte first), value. Tag 01 is a
--- name. At most 16 names, 0 allowed, no name twice; a bad name, another tag or a cut field is refusal 15 too."
+-- 01, The board: the watch list is stored as tagged fields: one-byte tag, two-byte length (high byte first), value. Tag 01 is a name. At
+-- most so many names as there are rows, 0 allowed, no name twice; a bad name, another tag or a cut field is refusal 15 too.
 use Prim.Native.Nat.{ℕ, zero, suc, _/_, _%_, _≤_}
 use mathlib.Core.Path.{_≡_}
 use mathlib.Core.Bool.{Bool, true, cond, not, _&&_}
@@ -13,16 +13,14 @@ use Rattle.packet.specs.Names.{validName}
 use Rattle.rows.specs.Names.{placeOf, isIn}
 use Rattle.rows.specs.Rows.{rowCount, rowNames, watched, freshRow, putRow, boardOf}
 use Rattle.rows.specs.declared.Board.{Board}
-use Rattle.board.specs.declared.list.Field.{Field}
-use Rattle.board.specs.declared.list.Field.the-variants.{Name, Bad}
 use Rattle.board.specs.declared.list.Listed.the-variants.{Accepted, Refused}
 use Rattle.board.specs.declared.list.Watched.{Watched}
 
--- whether a name may join the names before it: a valid name, none of them, and fewer than 16 before it
-unfoldable pub mayJoin : List (List ℕ) → List ℕ → Bool
-mayJoin names name = validName name && (not (isIn name names) && ltb (length names) rowCount)
+-- whether a name may join the names before it: a valid name, none of them, and fewer than the limit before it
+unfoldable pub mayJoin : ℕ → List (List ℕ) → List ℕ → Bool
+mayJoin limit names name = validName name && (not (isIn name names) && ltb (length names) limit)
 
--- what a watch list says of its names: each is valid, none stands twice, and there are at most 16
+-- what a watch list says of its names: each is valid, none stands twice, and there are no more than the limit
 unfoldable pub allValid : List (List ℕ) → Bool
 allValid [] = true
 allValid (name ∷ names) = validName name && allValid names
@@ -31,10 +29,10 @@ unfoldable pub distinct : List (List ℕ) → Bool
 distinct [] = true
 distinct (name ∷ names) = not (isIn name names) && distinct names
 
-pub record Good (names : List (List ℕ)) : Type 0 where
+pub record Good (limit : ℕ) (names : List (List ℕ)) : Type 0 where
   pub valid : allValid names ≡ true
   pub once : distinct names ≡ true
-  pub few : length names ≤ rowCount
+  pub few : length names ≤ limit
 
 -- whether a field is a whole name: the value is no longer than the rest behind the length
 abbrev pub isWhole : ℕ → ℕ → List ℕ → Bool
@@ -42,20 +40,20 @@ isWhole tag size rest = eqb tag 0x01 && leb size (length rest)
 
 -- the names of the fields, behind those before them; none where a field is refused. `skip` bytes of a name that has joined
 -- are passed over first.
-unfoldable pub namesFrom : ℕ → List (List ℕ) → List ℕ → Option (List (List ℕ))
-namesFrom zero names [] = some names
-namesFrom zero names (tag ∷ []) = none
-namesFrom zero names (tag ∷ high ∷ []) = none
-namesFrom zero names (tag ∷ high ∷ low ∷ rest) =
-    cond (isWhole tag (pairOf high low) rest && mayJoin names (take (pairOf high low) rest))
-    (namesFrom (pairOf high low) (names ++ (take (pairOf high low) rest ∷ [])) rest)
+unfoldable pub namesFrom : ℕ → ℕ → List (List ℕ) → List ℕ → Option (List (List ℕ))
+namesFrom limit zero names [] = some names
+namesFrom limit zero names (tag ∷ []) = none
+namesFrom limit zero names (tag ∷ high ∷ []) = none
+namesFrom limit zero names (tag ∷ high ∷ low ∷ rest) =
+    cond (isWhole tag (pairOf high low) rest && mayJoin limit names (take (pairOf high low) rest))
+    (namesFrom limit (pairOf high low) (names ++ (take (pairOf high low) rest ∷ [])) rest)
     none
-namesFrom (suc skip) names [] = none
-namesFrom (suc skip) names (byte ∷ rest) = namesFrom skip names rest
+namesFrom limit (suc skip) names [] = none
+namesFrom limit (suc skip) names (byte ∷ rest) = namesFrom limit skip names rest
 
 -- the names of a watch list, in its order, or none where it is refused
-abbrev pub watchNames : List ℕ → Option (List (List ℕ))
-watchNames fields = namesFrom 0 [] fields
+abbrev pub watchNames : ℕ → List ℕ → Option (List (List ℕ))
+watchNames limit fields = namesFrom limit 0 [] fields
 
 -- a name as a field, and names as a list of fields
 abbrev pub nameField : List ℕ → List ℕ
@@ -64,18 +62,6 @@ nameField name = 0x01 ∷ length name / 256 ∷ length name % 256 ∷ name
 unfoldable pub fieldsOf : List (List ℕ) → List ℕ
 fieldsOf [] = []
 fieldsOf (name ∷ names) = nameField name ++ fieldsOf names
-
--- the length of the name that the fields begin with, or none where they begin with another field or a cut one
-unfoldable pub fieldOf : List ℕ → Option ℕ
-fieldOf [] = none
-fieldOf (tag ∷ []) = none
-fieldOf (tag ∷ high ∷ []) = none
-fieldOf (tag ∷ high ∷ low ∷ rest) = cond (isWhole tag (pairOf high low) rest) (some (pairOf high low)) none
-
--- how the code answers a field
-abbrev pub asField : Option ℕ → Field
-asField (some size) = Name size
-asField none = Bad
 
 -- how the code answers a watch list or a name that is refused
 abbrev pub refusedWith : Board → Watched
@@ -86,8 +72,8 @@ acceptedWith board = record { board = board; answer = Accepted }
 
 -- the answer to a watch list: the board of its names, and where it is refused a board that shows nothing of it
 abbrev pub asWatched : Option (List (List ℕ)) → Watched
-asWatched (some names) = acceptedWith (boardOf names)
-asWatched none = refusedWith (boardOf [])
+asWatched (some names) = acceptedWith (boardOf rowCount names)
+asWatched none = refusedWith (boardOf rowCount [])
 
 -- the board with the name in the row at place
 abbrev pub joinBoard : Board → List ℕ → Option ℕ → Board
@@ -97,4 +83,4 @@ joinBoard board name none = board
 -- one name more: in the first unused row, or refused with the board as it was
 unfoldable pub watchBoard : Board → List ℕ → Watched
 watchBoard board name =
-    cond (mayJoin (watched board) name) (acceptedWith (joinBoard board name (placeOf [] (rowNames board)))) (refusedWith board)
+    cond (mayJoin rowCount (watched board) name) (acceptedWith (joinBoard board name (placeOf [] (rowNames board)))) (refusedWith board)

@@ -1,6 +1,8 @@
 // The watch list: which names the board shows.
 ghost use mathlib.Core.Path.{_≡_};
-ghost use Rattle.board.specs.WatchList.{watchBoard, watchNames, asWatched, refusedWith, fieldOf, asField};
+ghost use Rattle.rows.specs.Rows.{rowCount};
+ghost use Rattle.board.specs.WatchList.{watchBoard, watchNames, asWatched, refusedWith};
+ghost use Rattle.board.specs.ListSteps.{fieldOf, asField};
 use rows::Board;
 use rows::Place;
 use rows::find;
@@ -30,7 +32,7 @@ enum Field {
 
 // The board of a watch list. Where the list is refused the board shows nothing of it.
 pub fn watch_list(fields: &[u8]) -> Watched
-    ensures { λ r. ⌜ r ≡ asWatched (watchNames (now (fields .entry))) ⌝ }
+    ensures { λ r. ⌜ r ≡ asWatched (watchNames rowCount (now (fields .entry))) ⌝ }
 {
     let mut board = fresh();
     let mut at: usize = 0;

@@ -1,3 +1,4 @@
 pub mod LengthLaws
+pub mod HandedLaws
 pub mod DisplayLaws
 pub mod TakingLaws

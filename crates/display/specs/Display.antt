@@ -20,8 +20,8 @@ use Rattle.display.specs.declared.Received.{Received}
 -- 01, Refusal numbers: a packet refused by the board adds one to the unread count
 abbrev pub countReading : Link → board-answer.Answer → Link
 countReading state (board-answer.the-variants.Refused n) = withUnreadPacket state
-countReading state board-answer.the-variants.EndMark = state
-countReading state (board-answer.the-variants.Updated row) = state
+countReading state (board-answer.the-variants.EndMark id) = state
+countReading state (board-answer.the-variants.Updated row id) = state
 
 -- a call that brought no new packet leaves the board as it was
 abbrev pub keepBoard : link-received.Received → Board → declared.Answer → Received

@@ -46,8 +46,12 @@ pub fn tick(display: Display) -> Display
     ensures { λ r. ⌜ r ≡ tickDisplay display ⌝ }
 {
     let link = display.link;
-    let board = rows::lent_tick(display.board);
-    Display { link, board }
+    let board = display.board;
+    let ticked = rows::lent_tick(board);
+    Display {
+        link,
+        board: ticked,
+    }
 }
 
 // Takes bytes of the piece up to the flag that ends a frame, or all of them. Every new packet is
@@ -105,8 +109,8 @@ fn count_reading(link: Link, reading: board::Answer) -> Link
 {
     match reading {
         board::Answer::Refused(_) => count_unread(link),
-        board::Answer::EndMark => link,
-        board::Answer::Updated(_) => link,
+        board::Answer::EndMark { .. } => link,
+        board::Answer::Updated { .. } => link,
     }
 }
 

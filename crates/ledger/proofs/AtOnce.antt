@@ -2,73 +2,23 @@
 -- good data frame with it, not 0, is dropped, and every other one is new and read.
 use mathlib.Core.Path.{_≡_, sym, ap, _∙_}
 use mathlib.Core.Bool.{true, false}
-use mathlib.Core.List.{List, [], _∷_, map, append-cancel-left}
-use mathlib.Core.Option.{Option, some, none}
-use Prim.Native.Nat.{ℕ, _-_}
-use lib.ListN.{length}
-use Rattle.slices.specs.Put.{putAt}
-use Rattle.rows.specs.Entries.{boardShowing}
-use Rattle.rows.specs.Names.{placeOf}
-use Rattle.board.specs.Reading as reading
-use Rattle.board.specs.Reading.{Verdict, readBoard}
-use Rattle.board.specs.declared.reading.Answer as board-answer
-use Rattle.link.specs.Counts.{countOf}
-use Rattle.link.specs.declared.counts.Counts.{Counts}
-use Rattle.link.specs.declared.counts.Event.the-variants as event
-use Rattle.link.specs.Walk.{walkOf}
-use Rattle.display.specs.declared.Answer.the-variants.{Again, New}
+use mathlib.Core.List.{List, [], _∷_}
+use mathlib.Core.Option.{Option, some}
+use Prim.Native.Nat.{ℕ}
 use Rattle.display.specs.declared.Display.{Display}
 use Rattle.ledger.specs.Ledger.{Ledger, start}
 use Rattle.ledger.specs.Frames as frames
-use Rattle.ledger.specs.Frames.{taken}
-use Rattle.ledger.specs.Answers as given
 use Rattle.ledger.specs.Answers.{WatchList, namesIn, Call, piece}
-use Rattle.ledger.specs.Calls as calls
-use Rattle.ledger.specs.Calls.{Effect, answerTo, repeated, closed, withRun, step, after}
-use Rattle.ledger.specs.Shown.{asCounts, asEntry, asUpdated, asReading, Left, took, asLeft}
+use Rattle.ledger.specs.Calls.{repeated, after}
+use Rattle.ledger.specs.Shown.{Left}
 use Rattle.ledger.specs.History.{eventsOf, history}
-use Rattle.ledger.specs.ClosedFrames.{marksFrom, framesOf, framesIn, Closes, lastSequence}
-use Rattle.ledger.proofs.CountAgreement.{count-new, count-again, count-unread}
-use Rattle.ledger.proofs.FrameAgreement.{read-shown, read-answered}
+use Rattle.ledger.specs.ClosedFrames.{Closes, lastSequence}
 use Rattle.ledger.proofs.Chain.{Begins, Chain}
-use Rattle.ledger.proofs.EveryList.{Agreed, chain-agrees, Agreeing, agreeing}
-use Rattle.ledger.proofs.ByEvents.{afterHistory, frames-append, history-sequence}
-use Rattle.ledger.proofs.ClosedCalls.{ClosedBy, step-closes, repeats, zero-new, other-new}
-use Rattle.ledger.proofs.SameHistory.{next-given, after-by}
-
--- a call that answered a data frame and dropped it: again plus 1, the packet buffer and the board are as they were
-pub record Dropped (sequence : ℕ) (reply packet : List ℕ) (before : Display) (more : Left) (behind : Display) : Type 0 where
-  pub taken : ℕ
-  pub answers : more ≡ took taken (Again (length (answerTo sequence))) (putAt reply 0 (answerTo sequence)) packet
-  pub counts : behind .link .counts ≡ countOf event.Again (before .link .counts)
-  pub board : behind .board ≡ before .board
-
--- new plus 1, and for a packet that the board refused unread plus 1
-abbrev pub countRead : board-answer.Answer → Counts → Counts
-countRead (board-answer.the-variants.Refused n) counts = countOf event.Unread (countOf event.New counts)
-countRead board-answer.the-variants.EndMark counts = countOf event.New counts
-countRead (board-answer.the-variants.Updated row) counts = countOf event.New counts
-
--- a call that answered it as new: its payload is handed up, and the board has read it
-pub record ReadAsNew (sequence : ℕ) (payload reply packet : List ℕ) (before : Display) (more : Left) (behind : Display) : Type 0 where
-  pub taken : ℕ
-  pub answers :
-      more
-      ≡ took taken (New (length (answerTo sequence)) (length payload) (readBoard (before .board) payload .answer)) (putAt reply 0 (answerTo sequence))
-      (putAt packet 0 payload)
-  pub counts : behind .link .counts ≡ countRead (readBoard (before .board) payload .answer) (before .link .counts)
-  pub board : behind .board ≡ readBoard (before .board) payload .board
-
--- the ledger's counts after a packet was read
-read-counts : (names : List (List ℕ)) (l : Ledger) (sequence : ℕ) (v : Verdict)
-    → countRead (asReading names v) (asCounts (l .counts)) ≡ asCounts (calls.afterReading (calls.afterNew l sequence) v .counts)
-read-counts names l sequence (reading.refused n) = ap (countOf event.Unread) (count-new (l .counts)) ∙ count-unread (calls.afterNew l sequence .counts)
-read-counts names l sequence reading.endMark = count-new (l .counts)
-read-counts names l sequence (reading.update name value) = by-place (placeOf name names)
-  where
-    by-place : (o : Option ℕ) → countRead (asUpdated o) (asCounts (l .counts)) ≡ asCounts (calls.afterNew l sequence .counts)
-    by-place (some place) = count-new (l .counts)
-    by-place none = count-new (l .counts)
+use Rattle.ledger.proofs.EveryList.{Agreeing, agreeing}
+use Rattle.ledger.proofs.ByEvents.{history-sequence}
+use Rattle.ledger.proofs.SameHistory.{after-by}
+use Rattle.ledger.proofs.LineLaws.{repeats, zero-new, other-new}
+use Rattle.ledger.proofs.DataCalls.{Dropped, ReadAsNew, dropped, read-new}
 
 -- by the sequence of the last data frame, if there was one
 pub record AtOnce (last : Option ℕ) (sequence : ℕ) (payload reply packet : List ℕ) (before : Display) (more : Left) (behind : Display) : Type 0 where
@@ -80,90 +30,25 @@ module _ (names : List (List ℕ)) (cs : List Call) (left : List Left) (end : Di
     (bytes reply packet : List ℕ) (more : Left) (end₁ : Display) (next : Chain end (piece bytes reply packet ∷ []) (more ∷ []) end₁)
     (sequence : ℕ) (payload : List ℕ)
     (closes : Closes (history cs left) (eventsOf (piece bytes reply packet) more) (frames.good sequence payload)) where
-  abbrev l : Ledger
-  l = after (start names) cs
+  abbrev last : Option ℕ
+  last = after (start names) cs .line .sequence
 
-  abbrev c : Call
-  c = piece bytes reply packet
+  last-is : lastSequence (history cs left) ≡ last
+  last-is =
+      sym (ap (λ (m : Ledger). m .line .sequence) (after-by names cs left (a .all .gives)) ∙ history-sequence (start names) (history cs left))
 
-  one-call : Agreed names l (c ∷ []) (more ∷ []) end₁
-  one-call = chain-agrees names (a .fit) l next (a .all .agrees)
+  drops : repeated last sequence ≡ true → Dropped sequence reply packet end more end₁
+  drops = dropped names cs left end a bytes reply packet more end₁ next sequence payload closes
 
-  more-is : more ≡ asLeft names (step l c .given)
-  more-is = next-given names l c more (one-call .gives)
-
-  ledger-is : l ≡ afterHistory (start names) (history cs left)
-  ledger-is = after-by names cs left (a .all .gives)
-
-  last-is : lastSequence (history cs left) ≡ l .sequence
-  last-is = sym (ap (λ (m : Ledger). m .sequence) ledger-is ∙ history-sequence (start names) (history cs left))
-
-  step-is : ClosedBy l reply packet sequence payload (step l c)
-  step-is =
-      let here : framesOf (marksFrom (afterHistory (start names) (history cs left) .run) (eventsOf c more)) ≡ frames.good sequence payload ∷ [] =
-      append-cancel-left (framesIn (history cs left)) _ _ (sym (frames-append (start names) (history cs left) (eventsOf c more)) ∙ closes) in
-      step-closes names l bytes reply packet sequence payload (rw (← ledger-is, more-is) at here)
-
-  board-is : end₁ .board ≡ boardShowing (map asEntry (step l c .ledger .entries))
-  unfolding after
-  board-is = one-call .agrees .shows .showing
-
-  counts-are : end₁ .link .counts ≡ asCounts (step l c .ledger .counts)
-  unfolding after
-  counts-are = one-call .agrees .counts-are
-
-  -- by what the frame comes to
-  module _ (e : Effect) (is : closed (withRun l (step-is .run)) (frames.good sequence payload) ≡ e) where
-    left-is : more ≡ asLeft names (given.took (step-is .count) (e .answer) (putAt reply 0 (e .reply)) (putAt packet 0 (e .packet)))
-    left-is =
-        more-is
-        ∙ ap (asLeft names) (step-is .gives)
-        ∙ ap (λ (x : Effect). asLeft names (given.took (step-is .count) (x .answer) (putAt reply 0 (x .reply)) (putAt packet 0 (x .packet)))) is
-
-    shown-is : end₁ .board ≡ boardShowing (map asEntry (e .ledger .entries))
-    shown-is = board-is ∙ ap (λ (m : Ledger). boardShowing (map asEntry (m .entries))) (step-is .leaves ∙ ap (λ (x : Effect). x .ledger) is)
-
-    counted-is : end₁ .link .counts ≡ asCounts (e .ledger .counts)
-    counted-is = counts-are ∙ ap (λ (m : Ledger). asCounts (m .counts)) (step-is .leaves ∙ ap (λ (x : Effect). x .ledger) is)
-
-  pub dropped : repeated (l .sequence) sequence ≡ true → Dropped sequence reply packet end more end₁
-  dropped again =
-      let run = withRun l (step-is .run) in
-      let is : closed run (frames.good sequence payload) ≡ calls.repeatedFrame run sequence = rw again in
-      record {
-        taken = step-is .count;
-        answers = left-is (calls.repeatedFrame run sequence) is;
-        counts =
-            counted-is (calls.repeatedFrame run sequence) is
-            ∙ sym (ap (countOf event.Again) (a .all .agrees .counts-are) ∙ count-again (l .counts));
-        board = shown-is (calls.repeatedFrame run sequence) is ∙ sym (a .all .agrees .shows .showing);
-      }
-
-  pub read-new : repeated (l .sequence) sequence ≡ false → ReadAsNew sequence payload reply packet end more end₁
-  read-new fresh =
-      let run = withRun l (step-is .run) in
-      let is : closed run (frames.good sequence payload) ≡ calls.newFrame run sequence payload = rw fresh in
-      let walk = walkOf [] (end .link .content) (end .link .reader) 0 in
-      let shows = a .all .agrees .shows in
-      let answered = read-answered names (a .fit) walk run (end .board) shows sequence payload in
-      let shown = read-shown names (a .fit) walk run (end .board) shows sequence payload in
-      record {
-        taken = step-is .count;
-        answers = rw answered (left-is (calls.newFrame run sequence payload) is);
-        counts =
-            counted-is (calls.newFrame run sequence payload) is
-            ∙ sym
-            (rw answered (ap (countRead (asReading names (calls.readingBy run payload))) (a .all .agrees .counts-are)
-            ∙ read-counts names run sequence (calls.readingBy run payload)));
-        board = shown-is (calls.newFrame run sequence payload) is ∙ sym shown;
-      }
+  reads : repeated last sequence ≡ false → ReadAsNew sequence payload reply packet end more end₁
+  reads = read-new names cs left end a bytes reply packet more end₁ next sequence payload closes
 
   by-last : AtOnce (lastSequence (history cs left)) sequence payload reply packet end more end₁
   by-last =
       record {
-        repeated = λ same some-sequence. dropped (repeats (l .sequence) sequence (sym last-is ∙ same) some-sequence);
-        zero = λ none. read-new (zero-new (l .sequence) sequence none);
-        other = λ differs. read-new (other-new (l .sequence) sequence (λ same. differs (last-is ∙ same)));
+        repeated = λ same some-sequence. drops (repeats last sequence (sym last-is ∙ same) some-sequence);
+        zero = λ none. reads (zero-new last sequence none);
+        other = λ differs. reads (other-new last sequence (λ same. differs (last-is ∙ same)));
       }
 
 -- THEOREM. After every list of calls: where the next call closes a good data frame that has the sequence of the last data frame, not 0,

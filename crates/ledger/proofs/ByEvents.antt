@@ -2,16 +2,12 @@
 -- other do one after the other.
 use mathlib.Core.Path.{_≡_, refl, sym, ap, _∙_}
 use mathlib.Core.Bool.{Bool, true, false, cond}
-use mathlib.Core.List.{List, [], _∷_, _++_, map, append-assoc}
-use mathlib.Core.Option.{Option, some, none}
+use mathlib.Core.List.{List, [], _∷_, _++_, append-assoc}
+use mathlib.Core.Option.{Option, some}
 use Prim.Native.Nat.{ℕ}
 use lib.Dec.{eqb}
-use borrow.Author.Tests.{eqb-true}
-use Rattle.slices.proofs.Impossible.{impossible}
 use Rattle.refusals.specs.Numbers.{shortOutput}
-use Rattle.board.specs.Reading as reading
-use Rattle.board.specs.Reading.{Verdict}
-use Rattle.ledger.specs.Ledger.{Ledger, olderEntry}
+use Rattle.ledger.specs.Ledger.{Ledger}
 use Rattle.ledger.specs.Frames as frames
 use Rattle.ledger.specs.Frames.{Turn, goes-on, closes, turn, Frame, frameOf}
 use Rattle.ledger.specs.Answers.{Answer, nothing, refused, heard, again, new}
@@ -19,7 +15,7 @@ use Rattle.ledger.specs.Calls as calls
 use Rattle.ledger.specs.Calls.{repeated, closed, withRun}
 use Rattle.ledger.specs.History.{Event, byte, minute}
 use Rattle.ledger.specs.ClosedFrames.{Mark, passed, frame, behindTurn, marksFrom, framesOf, dataSequences, lastFrom}
-use Rattle.ledger.proofs.StepAgreement.{run-kept}
+use Rattle.ledger.proofs.LineLaws.{run-kept, repeats-last, read-sequence}
 
 -- of the ledger's answers those that do not depend on where a piece was cut, as History `answersAs` has it of the software's
 abbrev pub toldBy : Answer → List Answer
@@ -39,9 +35,9 @@ atTurn l (closes run) =
     record { ledger = closed (withRun l (some [])) (frameOf run) .ledger; told = toldBy (closed (withRun l (some [])) (frameOf run) .answer) }
 
 abbrev pub happens : Ledger → Event → Happening
-happens l (byte b) = atTurn l (turn (l .run) b)
+happens l (byte b) = atTurn l (turn (l .line .run) b)
 happens l minute =
-    record { ledger = record { run = l .run; sequence = l .sequence; counts = l .counts; entries = map olderEntry (l .entries) }; told = [] }
+    record { ledger = calls.afterTick l; told = [] }
 
 unfoldable pub afterHistory : Ledger → List Event → Ledger
 afterHistory l [] = l
@@ -63,18 +59,18 @@ told-append l (x ∷ xs) ys =
     ap (λ (r : List Answer). happens l x .told ++ r) (told-append (happens l x .ledger) xs ys)
     ∙ sym (append-assoc (happens l x .told) (toldInHistory (happens l x .ledger) xs) (toldInHistory (afterHistory (happens l x .ledger) xs) ys))
 
-marks-append : (l : Ledger) (xs ys : List Event) → marksFrom (l .run) (xs ++ ys) ≡ marksFrom (l .run) xs ++ marksFrom (afterHistory l xs .run) ys
+marks-append : (l : Ledger) (xs ys : List Event) → marksFrom (l .line .run) (xs ++ ys) ≡ marksFrom (l .line .run) xs ++ marksFrom (afterHistory l xs .line .run) ys
 unfolding marksFrom afterHistory
 marks-append l [] ys = refl
 marks-append l (minute ∷ xs) ys = ap (λ (ms : List Mark). passed ∷ ms) (marks-append (happens l minute .ledger) xs ys)
-marks-append l (byte b ∷ xs) ys = by-turn (turn (l .run) b) (λ m. marks-append m xs ys)
+marks-append l (byte b ∷ xs) ys = by-turn (turn (l .line .run) b) (λ m. marks-append m xs ys)
   where
-    by-turn : (t : Turn) → ((m : Ledger) → marksFrom (m .run) (xs ++ ys) ≡ marksFrom (m .run) xs ++ marksFrom (afterHistory m xs .run) ys)
-        → behindTurn t (λ run. marksFrom run (xs ++ ys)) ≡ behindTurn t (λ run. marksFrom run xs) ++ marksFrom (afterHistory (atTurn l t .ledger) xs .run) ys
+    by-turn : (t : Turn) → ((m : Ledger) → marksFrom (m .line .run) (xs ++ ys) ≡ marksFrom (m .line .run) xs ++ marksFrom (afterHistory m xs .line .run) ys)
+        → behindTurn t (λ run. marksFrom run (xs ++ ys)) ≡ behindTurn t (λ run. marksFrom run xs) ++ marksFrom (afterHistory (atTurn l t .ledger) xs .line .run) ys
     by-turn (goes-on run) rest = rest (withRun l run)
     by-turn (closes run) rest =
         let m = closed (withRun l (some [])) (frameOf run) .ledger in
-        let empty : m .run ≡ some [] = run-kept (withRun l (some [])) (frameOf run) in
+        let empty : m .line .run ≡ some [] = run-kept (withRun l (some [])) (frameOf run) in
         ap (λ (ms : List Mark). frame (frameOf run) ∷ ms) (rw empty at (rest m))
 
 frames-joined : (xs ys : List Mark) → framesOf (xs ++ ys) ≡ framesOf xs ++ framesOf ys
@@ -84,46 +80,32 @@ frames-joined (passed ∷ xs) ys = frames-joined xs ys
 frames-joined (frame f ∷ xs) ys = ap (λ (fs : List Frame). f ∷ fs) (frames-joined xs ys)
 
 pub frames-append : (l : Ledger) (xs ys : List Event)
-    → framesOf (marksFrom (l .run) (xs ++ ys)) ≡ framesOf (marksFrom (l .run) xs) ++ framesOf (marksFrom (afterHistory l xs .run) ys)
-frames-append l xs ys = ap framesOf (marks-append l xs ys) ∙ frames-joined (marksFrom (l .run) xs) (marksFrom (afterHistory l xs .run) ys)
+    → framesOf (marksFrom (l .line .run) (xs ++ ys)) ≡ framesOf (marksFrom (l .line .run) xs) ++ framesOf (marksFrom (afterHistory l xs .line .run) ys)
+frames-append l xs ys = ap framesOf (marks-append l xs ys) ∙ frames-joined (marksFrom (l .line .run) xs) (marksFrom (afterHistory l xs .line .run) ys)
 
 -- the ledger's last sequence is that of the last data frame that was closed
-pub repeats-last : (last : Option ℕ) (sequence : ℕ) → repeated last sequence ≡ true → last ≡ some sequence
-repeats-last none sequence e = impossible cc
-repeats-last (some before) sequence e = cases (eqb sequence 0) (eqb sequence before) refl e
-  where
-    cases : (t u : Bool) → eqb sequence before ≡ u → cond t false u ≡ true → some before ≡ some sequence
-    cases true u f e = impossible cc
-    cases false true f e = ap some (sym (eqb-true sequence before f))
-    cases false false f e = impossible cc
-
-pub read-sequence : (l : Ledger) (sequence : ℕ) (v : Verdict) → calls.afterReading (calls.afterNew l sequence) v .sequence ≡ some sequence
-read-sequence l sequence (reading.refused k) = refl
-read-sequence l sequence reading.endMark = refl
-read-sequence l sequence (reading.update name value) = refl
-
 closed-sequence : (l : Ledger) (f : Frame) (fs : List Frame)
-    → lastFrom (closed l f .ledger .sequence) (dataSequences fs) ≡ lastFrom (l .sequence) (dataSequences (f ∷ fs))
+    → lastFrom (closed l f .ledger .line .sequence) (dataSequences fs) ≡ lastFrom (l .line .sequence) (dataSequences (f ∷ fs))
 unfolding dataSequences lastFrom
 closed-sequence l (frames.refused k) fs = refl
 closed-sequence l (frames.acknowledgement sequence) fs = refl
-closed-sequence l (frames.good sequence payload) fs = ap (λ (o : Option ℕ). lastFrom o (dataSequences fs)) (by-last (repeated (l .sequence) sequence) refl)
+closed-sequence l (frames.good sequence payload) fs = ap (λ (o : Option ℕ). lastFrom o (dataSequences fs)) (by-last (repeated (l .line .sequence) sequence) refl)
   where
-    by-last : (t : Bool) → repeated (l .sequence) sequence ≡ t
-        → cond t (calls.repeatedFrame l sequence) (calls.newFrame l sequence payload) .ledger .sequence ≡ some sequence
-    by-last true e = repeats-last (l .sequence) sequence e
+    by-last : (t : Bool) → repeated (l .line .sequence) sequence ≡ t
+        → cond t (calls.repeatedFrame l sequence) (calls.newFrame l sequence payload) .ledger .line .sequence ≡ some sequence
+    by-last true e = repeats-last (l .line .sequence) sequence e
     by-last false e = read-sequence l sequence (calls.readingBy l payload)
 
-pub history-sequence : (l : Ledger) (es : List Event) → afterHistory l es .sequence ≡ lastFrom (l .sequence) (dataSequences (framesOf (marksFrom (l .run) es)))
+pub history-sequence : (l : Ledger) (es : List Event) → afterHistory l es .line .sequence ≡ lastFrom (l .line .sequence) (dataSequences (framesOf (marksFrom (l .line .run) es)))
 unfolding marksFrom framesOf afterHistory lastFrom dataSequences
 history-sequence l [] = refl
 history-sequence l (minute ∷ es) = history-sequence (happens l minute .ledger) es
-history-sequence l (byte b ∷ es) = by-turn (turn (l .run) b) (λ m. history-sequence m es)
+history-sequence l (byte b ∷ es) = by-turn (turn (l .line .run) b) (λ m. history-sequence m es)
   where
-    by-turn : (t : Turn) → ((m : Ledger) → afterHistory m es .sequence ≡ lastFrom (m .sequence) (dataSequences (framesOf (marksFrom (m .run) es))))
-        → afterHistory (atTurn l t .ledger) es .sequence ≡ lastFrom (l .sequence) (dataSequences (framesOf (behindTurn t (λ run. marksFrom run es))))
+    by-turn : (t : Turn) → ((m : Ledger) → afterHistory m es .line .sequence ≡ lastFrom (m .line .sequence) (dataSequences (framesOf (marksFrom (m .line .run) es))))
+        → afterHistory (atTurn l t .ledger) es .line .sequence ≡ lastFrom (l .line .sequence) (dataSequences (framesOf (behindTurn t (λ run. marksFrom run es))))
     by-turn (goes-on run) rest = rest (withRun l run)
     by-turn (closes run) rest =
         let m = closed (withRun l (some [])) (frameOf run) .ledger in
-        let empty : m .run ≡ some [] = run-kept (withRun l (some [])) (frameOf run) in
+        let empty : m .line .run ≡ some [] = run-kept (withRun l (some [])) (frameOf run) in
         rw empty at (rest m) ∙ closed-sequence (withRun l (some [])) (frameOf run) (framesOf (marksFrom (some []) es))

@@ -1,13 +1,10 @@
 -- A call that closes a good data frame: what its step is, and by the last sequence whether the frame is repeated at once.
 use mathlib.Core.Path.{_≡_, refl, sym, ap, _∙_}
-use mathlib.Core.Bool.{Bool, true, false, cond, _||_}
 use mathlib.Core.List.{List, [], _∷_, _++_, map}
 use mathlib.Core.Option.{Option, some, none}
 use Prim.Native.Nat.{ℕ, _-_}
 use native.Mathlib.Omega.{arith}
-use lib.Dec.{eqb, ltb}
-use lib.ListN.{length, take}
-use borrow.Author.Tests.{eq-eqb, ne-eqb}
+use lib.ListN.{take}
 use Rattle.slices.proofs.Impossible.{impossible}
 use Rattle.slices.specs.Put.{putAt}
 use Rattle.display.specs.declared.Display.{Display}
@@ -17,14 +14,15 @@ use Rattle.ledger.specs.Frames.{Frame, Taken, taken, frameOf}
 use Rattle.ledger.specs.Answers as given
 use Rattle.ledger.specs.Answers.{Call, piece}
 use Rattle.ledger.specs.Calls as calls
-use Rattle.ledger.specs.Calls.{repeated, closed, withRun, pieceStep, shortStep, step, after}
-use Rattle.ledger.specs.Shown.{Left, took, asLeft}
+use Rattle.ledger.specs.Calls.{closed, withRun, pieceStep, step, after}
+use Rattle.ledger.specs.Shown.{Left, asLeft}
 use Rattle.ledger.specs.History.{byte, eventsOf, history}
 use Rattle.ledger.specs.ClosedFrames.{marksFrom, framesOf, framesIn, Closes}
 use Rattle.ledger.proofs.EveryList.{Agreeing}
 use Rattle.ledger.proofs.ByEvents.{frames-append}
 use Rattle.ledger.proofs.HistoryLaws.{closedFrames, piece-same}
 use Rattle.ledger.proofs.SameHistory.{after-by}
+use Rattle.ledger.proofs.RoomLaws.{by-room}
 
 -- a step that closes a good data frame
 pub record ClosedBy (l : Ledger) (reply packet : List ℕ) (sequence : ℕ) (payload : List ℕ) (s : calls.Step) : Type 0 where
@@ -38,10 +36,20 @@ pub record ClosedBy (l : Ledger) (reply packet : List ℕ) (sequence : ℕ) (pay
   pub leaves : s .ledger ≡ closed (withRun l run) (frames.good sequence payload) .ledger
 
 pub step-closes : (names : List (List ℕ)) (l : Ledger) (bytes reply packet : List ℕ) (sequence : ℕ) (payload : List ℕ)
-    → framesOf (marksFrom (l .run) (eventsOf (piece bytes reply packet) (asLeft names (step l (piece bytes reply packet) .given)))) ≡ frames.good sequence payload ∷ []
+    → framesOf (marksFrom (l .line .run) (eventsOf (piece bytes reply packet) (asLeft names (step l (piece bytes reply packet) .given)))) ≡ frames.good sequence payload ∷ []
     → ClosedBy l reply packet sequence payload (step l (piece bytes reply packet))
-unfolding step marksFrom framesOf
-step-closes names l bytes reply packet sequence payload = by-room (ltb (length reply) 9 || ltb (length packet) 383)
+unfolding marksFrom framesOf
+step-closes names l bytes reply packet sequence payload =
+    by-room
+    (λ (s : calls.Step).
+    framesOf (marksFrom (l .line .run) (eventsOf (piece bytes reply packet) (asLeft names (s .given)))) ≡ frames.good sequence payload ∷ []
+    → ClosedBy l reply packet sequence payload s)
+    l bytes reply packet
+    (λ short e. impossible cc)
+    (λ reply-room packet-room e.
+    let t = taken (l .line .run) bytes 0 in
+    let all : t .count - 0 ≡ t .count = omega arith in
+    by-frame t (t .frame) refl (sym (rw all at (piece-same bytes l 0 .frames)) ∙ e))
   where
     by-frame : (t : Taken) (frame : Option (List ℕ)) → t .frame ≡ frame → closedFrames frame ≡ frames.good sequence payload ∷ []
         → ClosedBy l reply packet sequence payload (pieceStep l t reply packet)
@@ -50,41 +58,14 @@ step-closes names l bytes reply packet sequence payload = by-room (ltb (length r
         let is : frameOf run ≡ frames.good sequence payload = cc in
         record { run = t .run; count = t .count; gives = rw (f, is); leaves = rw (f, is) }
 
-    by-room : (t : Bool)
-        → framesOf (marksFrom (l .run) (eventsOf (piece bytes reply packet) (asLeft names (cond t (shortStep l reply packet) (pieceStep l (taken (l .run) bytes 0) reply packet) .given))))
-        ≡ frames.good sequence payload ∷ []
-        → ClosedBy l reply packet sequence payload (cond t (shortStep l reply packet) (pieceStep l (taken (l .run) bytes 0) reply packet))
-    by-room true e = impossible cc
-    by-room false e =
-        let t = taken (l .run) bytes 0 in
-        let all : t .count - 0 ≡ t .count = omega arith in
-        by-frame t (t .frame) refl (sym (rw all at (piece-same bytes l 0 .frames)) ∙ e)
-
--- what it does, by the last sequence
-pub repeats : (last : Option ℕ) (sequence : ℕ) → last ≡ some sequence → (sequence ≡ 0 → ⊥) → repeated last sequence ≡ true
-repeats none sequence e more = impossible cc
-repeats (some before) sequence e more = let same : sequence ≡ before = cc in rw (ne-eqb sequence 0 more, eq-eqb sequence before same)
-
-pub zero-new : (last : Option ℕ) (sequence : ℕ) → sequence ≡ 0 → repeated last sequence ≡ false
-zero-new none sequence e = refl
-zero-new (some before) sequence e = rw e
-
-pub other-new : (last : Option ℕ) (sequence : ℕ) → (last ≡ some sequence → ⊥) → repeated last sequence ≡ false
-other-new none sequence other = refl
-other-new (some before) sequence other = rw (ne-eqb sequence before (λ e. other (ap some (sym e)))) (never (eqb sequence 0))
-  where
-    never : (t : Bool) → cond t false false ≡ false
-    never true = refl
-    never false = refl
-
 -- what a call with room closed is what its part of the history closes
 pub closes-here : (names : List (List ℕ)) (cs : List Call) (left : List Left) (end : Display) → Agreeing names cs left end
-    → (bytes : List ℕ) (count : ℕ) (f : Frame) → count ≡ taken (after (start names) cs .run) bytes 0 .count
-    → closedFrames (taken (after (start names) cs .run) bytes 0 .frame) ≡ f ∷ [] → Closes (history cs left) (map byte (take count bytes)) f
+    → (bytes : List ℕ) (count : ℕ) (f : Frame) → count ≡ taken (after (start names) cs .line .run) bytes 0 .count
+    → closedFrames (taken (after (start names) cs .line .run) bytes 0 .frame) ≡ f ∷ [] → Closes (history cs left) (map byte (take count bytes)) f
 closes-here names cs left end a bytes count f counted is =
     let l = after (start names) cs in
-    let all : count ≡ taken (l .run) bytes 0 .count - 0 = omega arith in
-    let run-is = ap (λ (m : Ledger). m .run) (after-by names cs left (a .all .gives)) in
-    let here : framesOf (marksFrom (l .run) (map byte (take count bytes))) ≡ f ∷ [] = rw all (piece-same bytes l 0 .frames ∙ is) in
+    let all : count ≡ taken (l .line .run) bytes 0 .count - 0 = omega arith in
+    let run-is = ap (λ (m : Ledger). m .line .run) (after-by names cs left (a .all .gives)) in
+    let here : framesOf (marksFrom (l .line .run) (map byte (take count bytes))) ≡ f ∷ [] = rw all (piece-same bytes l 0 .frames ∙ is) in
     frames-append (start names) (history cs left) (map byte (take count bytes))
     ∙ ap (λ (fs : List Frame). framesIn (history cs left) ++ fs) (rw run-is at here)

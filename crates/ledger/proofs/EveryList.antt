@@ -7,19 +7,20 @@ use mathlib.Core.Option.{Option, some}
 use Prim.Native.Nat.{ℕ}
 use Rattle.rows.specs.Entries as shown
 use Rattle.rows.specs.Entries.{freshEntry, boardShowing}
-use Rattle.rows.specs.Rows.{boardOf}
+use Rattle.rows.specs.Rows.{rowCount, boardOf}
 use Rattle.board.specs.WatchList.{Good}
-use Rattle.board.proofs.WatchLaws.{Fits, good-fits}
+use Rattle.board.proofs.NameLaws.{Fits, good-fits}
 use Rattle.rows.proofs.EntryLaws.{fresh-showing}
 use Rattle.link.proofs.OursLaws.{ours-fresh}
 use Rattle.display.specs.Display as display
 use Rattle.display.specs.declared.Display.{Display}
-use Rattle.ledger.specs.Ledger.{Entry, Ledger, unheard, nameOf, start}
+use Rattle.ledger.specs.Ledger.{Ledger, unheard, nameOf, start}
 use Rattle.ledger.specs.Answers as answers
 use Rattle.ledger.specs.Answers.{WatchList, namesIn, Call}
 use Rattle.ledger.specs.Calls.{step, given, after}
 use Rattle.ledger.specs.Shown.{asCounts, asEntry, Left, asLeft}
-use Rattle.ledger.proofs.StepAgreement.{Agrees, piece-agrees, tick-agrees}
+use Rattle.ledger.proofs.StepAgreement.{Agrees, Gives, tick-agrees}
+use Rattle.ledger.proofs.PieceAgreement.{piece-agrees}
 use Rattle.ledger.proofs.Chain.{Begins, Chain, done, receives, ticks, received}
 use Rattle.ledger.proofs.FreshStarts.{began}
 
@@ -30,9 +31,9 @@ pub record IsLedgers (w : WatchList) (cs : List Call) (left : List Left) (end : 
   -- the answers and the bytes left in the buffers, call by call
   pub answers : left ≡ map (asLeft names) (given (start names) cs)
   -- each count modulo 65,536
-  pub counts : end .link .counts ≡ asCounts (after (start names) cs .counts)
+  pub counts : end .link .counts ≡ asCounts (after (start names) cs .line .counts)
   -- the board, with all its rows, is the one that shows the ledger's entries
-  pub board : end .board ≡ boardShowing (map asEntry (after (start names) cs .entries))
+  pub board : end .board ≡ boardShowing rowCount (map asEntry (after (start names) cs .hives .entries))
 
 fresh-shown : (names : List (List ℕ)) → map freshEntry names ≡ map asEntry (map unheard names)
 fresh-shown [] = refl
@@ -42,14 +43,14 @@ pub fresh-named : (names : List (List ℕ)) → map nameOf (map unheard names) �
 fresh-named [] = refl
 fresh-named (n ∷ names) = ap (λ (l : List (List ℕ)). n ∷ l) (fresh-named names)
 
-pub fresh-agrees : (names : List (List ℕ)) → Agrees names (start names) (display.fresh (boardOf names))
+pub fresh-agrees : (names : List (List ℕ)) → Agrees names (start names) (display.fresh (boardOf rowCount names))
 fresh-agrees names =
     record {
       ours = ours-fresh;
       standing = refl;
       last-is = refl;
       counts-are = refl;
-      shows = record { showing = fresh-showing names ∙ ap boardShowing (fresh-shown names); named = fresh-named names };
+      shows = record { showing = fresh-showing names ∙ ap (boardShowing rowCount) (fresh-shown names); named = fresh-named names };
     }
 
 -- after some calls display and ledger agree, and all that was left is what the ledger gives
@@ -76,7 +77,7 @@ same-names a b = cc
 
 -- names, and a list of calls from a fresh start with them
 pub record Agreeing (names : List (List ℕ)) (cs : List Call) (left : List Left) (end : Display) : Type 0 where
-  pub good : Good names
+  pub good : Good rowCount names
   pub fit : Fits names
   pub all : Agreed names (start names) cs left end
 
@@ -87,12 +88,21 @@ agreeing {w = w} {names = names} listed {d = d} begins chain =
     let same = same-names listed (b .listed) in
     let good = rw same at (b .good) in
     let fit = good-fits names (good .valid) in
-    let is : d ≡ display.fresh (boardOf names) = b .is ∙ ap (λ (ns : List (List ℕ)). display.fresh (boardOf ns)) same in
+    let is : d ≡ display.fresh (boardOf rowCount names) = b .is ∙ ap (λ (ns : List (List ℕ)). display.fresh (boardOf rowCount ns)) same in
     record {
       good = good;
       fit = fit;
       all = chain-agrees names fit (start names) chain (subst⁻¹ (λ (x : Display). Agrees names (start names) x) is (fresh-agrees names));
     }
+
+-- the next call, by the ledger that the calls before it left
+pub next-call : {names : List (List ℕ)} {cs : List Call} {left : List Left} {end : Display} → Agreeing names cs left end
+    → {c : Call} {more : Left} {end₁ : Display} → Chain end (c ∷ []) (more ∷ []) end₁ → Gives names (step (after (start names) cs) c) more end₁
+unfolding given after
+next-call {names = names} {cs = cs} a next =
+    let one = chain-agrees names (a .fit) (after (start names) cs) next (a .all .agrees) in
+    let given-is = one .gives in
+    record { gives = cc; agrees = one .agrees }
 
 -- THEOREM. Every list of calls is the ledger's.
 pub every-list : (w : WatchList) (d : Display) → Begins w d → (cs : List Call) (left : List Left) (end : Display) → Chain d cs left end

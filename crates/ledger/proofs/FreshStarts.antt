@@ -6,14 +6,15 @@ use mathlib.Core.Option.{Option, some, none}
 use Prim.Native.Nat.{ℕ}
 use Rattle.slices.proofs.Impossible.{impossible}
 use Rattle.slices.proofs.Lent.{in-call}
-use Rattle.rows.specs.Rows.{boardOf}
+use Rattle.rows.specs.Rows.{rowCount, boardOf}
 use Rattle.rows.specs.declared.Board.{Board}
 use Rattle.board.specs.WatchList.{Good, watchNames, fieldsOf, watchBoard, asWatched, acceptedWith}
 use Rattle.board.specs.declared.list.Listed.the-variants.{Accepted}
 use Rattle.board.specs.declared.list.Watched.{Watched}
 use Rattle.board.proofs.EntryLaws.{list-good}
 use Rattle.board.proofs.GoodLists.{may-join, good-listed}
-use Rattle.board.proofs.WatchLaws.{good-none, good-more, watch-more, accepted-joins}
+use Rattle.board.proofs.NameLaws.{good-none, good-more}
+use Rattle.board.proofs.WatchLaws.{watch-more, accepted-joins}
 use Rattle.display.specs.Display as display
 use Rattle.display.specs.declared.Display.{Display}
 use Rattle.ledger.specs.Answers.{WatchList, as-bytes, one-by-one, namesIn}
@@ -23,14 +24,14 @@ use Rattle.ledger.proofs.Chain.{Begins, from-bytes, no-names, one-more,
 pub record Began (w : WatchList) (d : Display) : Type 0 where
   pub names : List (List ℕ)
   pub listed : namesIn w ≡ some names
-  pub good : Good names
-  pub is : d ≡ display.fresh (boardOf names)
+  pub good : Good rowCount names
+  pub is : d ≡ display.fresh (boardOf rowCount names)
 
-from-list : (fields : List ℕ) (watched : Watched) (d : Display) → watched ≡ asWatched (watchNames fields) → watched .answer ≡ Accepted
+from-list : (fields : List ℕ) (watched : Watched) (d : Display) → watched ≡ asWatched (watchNames rowCount fields) → watched .answer ≡ Accepted
     → d ≡ display.fresh (watched .board) → Began (as-bytes fields) d
-from-list fields watched d told accepted started = cases (watchNames fields) refl
+from-list fields watched d told accepted started = cases (watchNames rowCount fields) refl
   where
-    cases : (o : Option (List (List ℕ))) → watchNames fields ≡ o → Began (as-bytes fields) d
+    cases : (o : Option (List (List ℕ))) → watchNames rowCount fields ≡ o → Began (as-bytes fields) d
     cases none e =
         let refused = sym accepted ∙ ap (λ (w : Watched). w .answer) (told ∙ ap asWatched e) in
         impossible cc
@@ -40,13 +41,13 @@ from-list fields watched d told accepted started = cases (watchNames fields) ref
 
 -- one name more, on the board of those before it
 record Joined (names : List (List ℕ)) (name : List ℕ) (board : Board) : Type 0 where
-  good : Good (names ++ (name ∷ []))
-  is : board ≡ boardOf (names ++ (name ∷ []))
+  good : Good rowCount (names ++ (name ∷ []))
+  is : board ≡ boardOf rowCount (names ++ (name ∷ []))
 
-joined : (names : List (List ℕ)) (name : List ℕ) (board : Board) (watched : Watched) → Good names → board ≡ boardOf names → watched ≡ watchBoard board name
+joined : (names : List (List ℕ)) (name : List ℕ) (board : Board) (watched : Watched) → Good rowCount names → board ≡ boardOf rowCount names → watched ≡ watchBoard board name
     → watched .answer ≡ Accepted → Joined names name (watched .board)
 joined names name board watched good board-is told accepted =
-    let is : watched ≡ watchBoard (boardOf names) name = told ∙ ap (λ (b : Board). watchBoard b name) board-is in
+    let is : watched ≡ watchBoard (boardOf rowCount names) name = told ∙ ap (λ (b : Board). watchBoard b name) board-is in
     let joins = accepted-joins names name good (ap (λ (w : Watched). w .answer) (sym is) ∙ accepted) in
     record {
       good = good-more names name good joins;
@@ -65,38 +66,38 @@ began (one-by-one ns) d (one-more {names = names} {name = name} {watched = watch
     let so-far = began (one-by-one names) d₀ before in
     let same = some-names (so-far .listed) in
     let told : watched ≡ watchBoard (d₀ .board) name = rw (watches .input-lent .holds) at (watches .learnt) in
-    let board-is : d₀ .board ≡ boardOf names = ap (λ (x : Display). x .board) (so-far .is) ∙ ap boardOf same in
+    let board-is : d₀ .board ≡ boardOf rowCount names = ap (λ (x : Display). x .board) (so-far .is) ∙ ap (boardOf rowCount) same in
     let j = joined names name (d₀ .board) watched (rw same at (so-far .good)) board-is told accepted in
     record { names = names ++ (name ∷ []); listed = refl; good = j .good; is = started ∙ ap display.fresh (j .is) }
 
 -- THEOREM. Every call of `board::watch_list` with the fields of a good list of names is accepted, with the board of the names.
-pub good-list-accepted : (names : List (List ℕ)) → Good names → (watched : Watched) → Lists (fieldsOf names) watched → watched ≡ acceptedWith (boardOf names)
+pub good-list-accepted : (names : List (List ℕ)) → Good rowCount names → (watched : Watched) → Lists (fieldsOf names) watched → watched ≡ acceptedWith (boardOf rowCount names)
 good-list-accepted names good watched lists =
-    let told : watched ≡ asWatched (watchNames (fieldsOf names)) = rw (lists .input-lent .holds) at (lists .learnt) in
+    let told : watched ≡ asWatched (watchNames rowCount (fieldsOf names)) = rw (lists .input-lent .holds) at (lists .learnt) in
     told ∙ ap asWatched (good-listed names good)
 
 -- THEOREM. Every call of `board::watch` with a name that makes a good list with those before it is accepted, with the board of all of them.
-pub good-name-accepted : (names : List (List ℕ)) (name : List ℕ) (d : Display) → Begins (one-by-one names) d → Good (names ++ (name ∷ []))
-    → (watched : Watched) → Watches (d .board) name watched → watched ≡ acceptedWith (boardOf (names ++ (name ∷ [])))
+pub good-name-accepted : (names : List (List ℕ)) (name : List ℕ) (d : Display) → Begins (one-by-one names) d → Good rowCount (names ++ (name ∷ []))
+    → (watched : Watched) → Watches (d .board) name watched → watched ≡ acceptedWith (boardOf rowCount (names ++ (name ∷ [])))
 good-name-accepted names name d begins good watched watches =
     let b = began (one-by-one names) d begins in
     let same = some-names (b .listed) in
     let told : watched ≡ watchBoard (d .board) name = rw (watches .input-lent .holds) at (watches .learnt) in
-    let board-is : d .board ≡ boardOf names = ap (λ (x : Display). x .board) (b .is) ∙ ap boardOf same in
+    let board-is : d .board ≡ boardOf rowCount names = ap (λ (x : Display). x .board) (b .is) ∙ ap (boardOf rowCount) same in
     told ∙ ap (λ (x : Board). watchBoard x name) board-is ∙ watch-more names name (rw same at (b .good)) (may-join name [] names good)
 
 -- THEOREM. From every list that is accepted there is a fresh start.
-pub accepted-begins : (fields : List ℕ) (names : List (List ℕ)) → watchNames fields ≡ some names → Begins (as-bytes fields) (display.fresh (boardOf names))
+pub accepted-begins : (fields : List ℕ) (names : List (List ℕ)) → watchNames rowCount fields ≡ some names → Begins (as-bytes fields) (display.fresh (boardOf rowCount names))
 accepted-begins fields names e =
     from-bytes (in-call tt (ap asWatched (sym e))) refl refl
 
 -- THEOREM. From every good list of names there is a fresh start, by the bytes of its fields.
-pub good-begins : (names : List (List ℕ)) → Good names → Begins (as-bytes (fieldsOf names)) (display.fresh (boardOf names))
+pub good-begins : (names : List (List ℕ)) → Good rowCount names → Begins (as-bytes (fieldsOf names)) (display.fresh (boardOf rowCount names))
 good-begins names good = accepted-begins (fieldsOf names) names (good-listed names good)
 
 -- name by name
-names-begin : (before names : List (List ℕ)) → Good before → Good (before ++ names) → Begins (one-by-one before) (display.fresh (boardOf before))
-    → Begins (one-by-one (before ++ names)) (display.fresh (boardOf (before ++ names)))
+names-begin : (before names : List (List ℕ)) → Good rowCount before → Good rowCount (before ++ names) → Begins (one-by-one before) (display.fresh (boardOf rowCount before))
+    → Begins (one-by-one (before ++ names)) (display.fresh (boardOf rowCount (before ++ names)))
 names-begin before [] good all begins = rw (append-nil before) begins
 names-begin before (name ∷ names) good all begins =
     let joins = may-join name names before all in
@@ -109,5 +110,5 @@ names-begin before (name ∷ names) good all begins =
     rw behind at (names-begin (before ++ (name ∷ [])) names (good-more before name good joins) (rw behind all) with-name)
 
 -- THEOREM. From every good list of names there is a fresh start, name by name.
-pub good-names-begin : (names : List (List ℕ)) → Good names → Begins (one-by-one names) (display.fresh (boardOf names))
+pub good-names-begin : (names : List (List ℕ)) → Good rowCount names → Begins (one-by-one names) (display.fresh (boardOf rowCount names))
 good-names-begin names good = names-begin [] names good-none good (no-names refl refl)

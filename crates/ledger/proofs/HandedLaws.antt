@@ -1,61 +1,39 @@
 -- What a call handed out stands at the start of the buffers, as long as the answer says: an acknowledgement has at most the nine bytes
 -- that a reply buffer has, and a payload at most the 383 of a packet buffer.
 use mathlib.Core.Path.{_≡_, refl, ap, ap₂}
-use mathlib.Core.Bool.{Bool, true, false, cond, _||_}
+use mathlib.Core.Bool.{Bool, true, false, cond}
 use mathlib.Core.List.{List, [], _∷_}
 use mathlib.Core.Option.{Option, some, none}
 use Prim.Native.Nat.{ℕ, _≤_}
 use native.Mathlib.Omega.{arith}
-use lib.Dec.{eqb, ltb}
 use lib.ListN.{length, take}
-use borrow.Author.Tests.{ltb-false}
-use Rattle.refusals.specs.Numbers.{unknownType, loadedAcknowledgement}
-use Rattle.slices.proofs.Impossible.{impossible}
 use Rattle.slices.specs.Put.{putAt}
 use Rattle.slices.proofs.PutLaws.{put-first}
-use Rattle.frame.specs.Content as content
-use Rattle.frame.specs.Reading.{readRun}
-use Rattle.frame.proofs.FrameTheorems.{run-bounded}
 use Rattle.link.specs.Closing.{acknowledgement}
 use Rattle.link.proofs.ClosingLaws.{acknowledgement-fits}
 use Rattle.ledger.specs.Ledger.{Ledger}
 use Rattle.ledger.specs.Frames as frames
-use Rattle.ledger.specs.Frames.{Frame, taken, byType, frameOf}
+use Rattle.ledger.specs.Frames.{Frame, taken, frameOf}
 use Rattle.ledger.specs.Answers as answers
 use Rattle.ledger.specs.Answers.{Call, Given, Answer}
 use Rattle.ledger.specs.Calls as calls
-use Rattle.ledger.specs.Calls.{Effect, answerTo, repeated, closed, effectOf, withRun, pieceStep, shortStep, step, given}
+use Rattle.ledger.specs.Calls.{Effect, answerTo, repeated, closed, effectOf, withRun, step}
 use Rattle.ledger.specs.Shown.{asAnswer, asLeft}
-use Rattle.ledger.specs.History.{Handed, handedAs, handedLeft}
+use Rattle.ledger.specs.History.{Handed, as-reply, as-packet, handedAs, handedLeft}
+use Rattle.ledger.proofs.FrameLaws.{payload-bounded}
+use Rattle.ledger.proofs.RoomLaws.{by-room}
 
 -- what the ledger hands out with an answer
 abbrev pub handedBy : Answer → List Handed
 handedBy answers.nothing = []
 handedBy (answers.refused n) = []
 handedBy (answers.heard sequence) = []
-handedBy (answers.again sequence) = record { reply = answerTo sequence; packet = none } ∷ []
-handedBy (answers.new sequence payload verdict) = record { reply = answerTo sequence; packet = some payload } ∷ []
+handedBy (answers.again sequence) = as-reply (answerTo sequence) ∷ []
+handedBy (answers.new sequence payload verdict) = as-reply (answerTo sequence) ∷ as-packet payload ∷ []
 
 abbrev pub handedIn : Given → List Handed
 handedIn (answers.took n answer reply packet) = handedBy answer
 handedIn answers.ticked = []
-
--- a good data frame has at most 383 bytes of payload
-payload-bounded : (run : List ℕ) (sequence : ℕ) (payload : List ℕ) → frameOf run ≡ frames.good sequence payload → length payload ≤ 383
-unfolding frameOf
-payload-bounded run sequence payload e = by-read (readRun run) refl e
-  where
-    by-read : (found : content.Read) → readRun run ≡ found → byType found ≡ frames.good sequence payload → length payload ≤ 383
-    by-read (content.refused n) f e = impossible cc
-    by-read (content.frame kind other bytes) f e = by-type (eqb kind 0x01) (eqb kind 0x02) (eqb (length bytes) 0) e
-      where
-        by-type : (t u v : Bool)
-            → cond t (frames.good other bytes) (cond u (cond v (frames.acknowledgement other) (frames.refused loadedAcknowledgement)) (frames.refused unknownType)) ≡ frames.good sequence payload
-            → length payload ≤ 383
-        by-type true u v e = let same : bytes ≡ payload = cc in rw (← same) (run-bounded run kind other bytes f)
-        by-type false true true e = impossible cc
-        by-type false true false e = impossible cc
-        by-type false false v e = impossible cc
 
 -- a frame that was closed, with buffers that have room
 module _ (names : List (List ℕ)) (l : Ledger) (reply packet : List ℕ) (reply-room : 9 ≤ length reply) (packet-room : 383 ≤ length packet) where
@@ -67,12 +45,12 @@ module _ (names : List (List ℕ)) (l : Ledger) (reply packet : List ℕ) (reply
   reply-stands sequence = let fits = acknowledgement-fits sequence in put-first reply (answerTo sequence) (omega (arith, fits))
 
   good-handed : (sequence : ℕ) (payload : List ℕ) → length payload ≤ 383 → Handed-out (closed l (frames.good sequence payload))
-  good-handed sequence payload few = by-last (repeated (l .sequence) sequence)
+  good-handed sequence payload few = by-last (repeated (l .line .sequence) sequence)
     where
       by-last : (t : Bool) → Handed-out (cond t (calls.repeatedFrame l sequence) (calls.newFrame l sequence payload))
-      by-last true = ap (λ (r : List ℕ). record { reply = r; packet = none } ∷ []) (reply-stands sequence)
+      by-last true = ap (λ (r : List ℕ). as-reply r ∷ []) (reply-stands sequence)
       by-last false =
-          ap₂ (λ (r p : List ℕ). record { reply = r; packet = some p } ∷ []) (reply-stands sequence)
+          ap₂ (λ (r p : List ℕ). as-reply r ∷ as-packet p ∷ []) (reply-stands sequence)
           (put-first packet payload (omega arith))
 
   frame-handed : (f : Frame) → ((sequence : ℕ) (payload : List ℕ) → f ≡ frames.good sequence payload → length payload ≤ 383) → Handed-out (closed l f)
@@ -86,14 +64,9 @@ module _ (names : List (List ℕ)) (l : Ledger) (reply packet : List ℕ) (reply
 
 pub step-handed : (names : List (List ℕ)) (l : Ledger) (c : Call) → handedLeft (asLeft names (step l c .given)) ≡ handedIn (step l c .given)
 unfolding step
-step-handed names l (answers.piece bytes reply packet) = by-room (ltb (length reply) 9) (ltb (length packet) 383) refl refl
-  where
-    by-room : (t u : Bool) → ltb (length reply) 9 ≡ t → ltb (length packet) 383 ≡ u
-        → handedLeft (asLeft names (cond (t || u) (shortStep l reply packet) (pieceStep l (taken (l .run) bytes 0) reply packet) .given))
-        ≡ handedIn (cond (t || u) (shortStep l reply packet) (pieceStep l (taken (l .run) bytes 0) reply packet) .given)
-    by-room true u e f = refl
-    by-room false true e f = refl
-    by-room false false e f =
-        let t = taken (l .run) bytes 0 in
-        effect-handed names (withRun l (t .run)) reply packet (ltb-false (length reply) 9 e) (ltb-false (length packet) 383 f) (t .frame)
+step-handed names l (answers.piece bytes reply packet) =
+    let t = taken (l .line .run) bytes 0 in
+    by-room (λ (s : calls.Step). handedLeft (asLeft names (s .given)) ≡ handedIn (s .given)) l bytes reply packet
+    (λ short. refl)
+    (λ reply-room packet-room. effect-handed names (withRun l (t .run)) reply packet reply-room packet-room (t .frame))
 step-handed names l answers.tick = refl

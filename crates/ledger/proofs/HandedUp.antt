@@ -3,7 +3,7 @@
 use mathlib.Core.Path.{_≡_, refl, sym, ap, _∙_}
 use mathlib.Core.Bool.{Bool, true, false, cond}
 use mathlib.Core.List.{List, [], _∷_, _++_}
-use mathlib.Core.Option.{Option, some, none}
+use mathlib.Core.Option.{Option, some}
 use Prim.Native.Nat.{ℕ}
 use lib.Dec.{eqb}
 use Rattle.refusals.specs.Numbers.{shortOutput}
@@ -16,66 +16,56 @@ use Rattle.ledger.specs.Answers.{WatchList, namesIn, Call, Answer}
 use Rattle.ledger.specs.Calls as calls
 use Rattle.ledger.specs.Calls.{repeated, closed, withRun}
 use Rattle.ledger.specs.Shown.{Left}
-use Rattle.ledger.specs.History.{Event, byte, minute, history, Handed, withPacket, packetsHanded, allHanded}
+use Rattle.ledger.specs.History.{Event, byte, minute, history, among, packetIn, packetsHanded, allHanded}
 use Rattle.ledger.specs.ClosedFrames.{behindTurn, marksFrom}
-use Rattle.ledger.specs.BoardEvents.{BoardEvent, packet, behindFrame, boardEventsOf, boardEventsIn, packetsIn}
-use Rattle.ledger.proofs.StepAgreement.{run-kept}
+use Rattle.ledger.specs.BoardEvents.{BoardEvent, behindFrame, boardEventsOf, boardEventsIn, packetsIn}
+use Rattle.ledger.proofs.LineLaws.{run-kept, repeats-last, read-sequence}
 use Rattle.ledger.proofs.Chain.{Begins, Chain}
 use Rattle.ledger.proofs.EveryList.{agreeing}
-use Rattle.ledger.proofs.ByEvents.{toldBy, atTurn, happens, toldInHistory, repeats-last, read-sequence}
-use Rattle.ledger.proofs.ToldLaws.{handedWith, handed-append, all-handed}
+use Rattle.ledger.proofs.ByEvents.{toldBy, atTurn, happens, toldInHistory}
+use Rattle.ledger.proofs.ToldLaws.{handedWith, handed-append, among-append, all-handed}
 use Rattle.ledger.proofs.SameHistory.{told-by}
-
-up-append : (xs ys : List Handed) → packetsHanded (xs ++ ys) ≡ packetsHanded xs ++ packetsHanded ys
-unfolding packetsHanded
-up-append [] ys = refl
-up-append (x ∷ xs) ys = by-packet (x .packet) (up-append xs ys)
-  where
-    by-packet : (o : Option (List ℕ)) → packetsHanded (xs ++ ys) ≡ packetsHanded xs ++ packetsHanded ys
-        → withPacket o (packetsHanded (xs ++ ys)) ≡ withPacket o (packetsHanded xs) ++ packetsHanded ys
-    by-packet none rest = rest
-    by-packet (some p) rest = ap (λ (ps : List (List ℕ)). p ∷ ps) rest
 
 -- the packets that are told of
 abbrev toldUp : List Answer → List (List ℕ)
 toldUp told = packetsHanded (handedWith told)
 
 told-up : (xs ys : List Answer) → toldUp (xs ++ ys) ≡ toldUp xs ++ toldUp ys
-told-up xs ys = ap packetsHanded (handed-append xs ys) ∙ up-append (handedWith xs) (handedWith ys)
+told-up xs ys = ap packetsHanded (handed-append xs ys) ∙ among-append packetIn (handedWith xs) (handedWith ys)
 
 -- a frame that was closed
 frame-up : (l : Ledger) (f : Frame) (rest : Option ℕ → List BoardEvent)
-    → packetsIn (behindFrame f (l .sequence) rest) ≡ toldUp (toldBy (closed l f .answer)) ++ packetsIn (rest (closed l f .ledger .sequence))
-unfolding packetsIn handedWith packetsHanded
+    → packetsIn (behindFrame f (l .line .sequence) rest) ≡ toldUp (toldBy (closed l f .answer)) ++ packetsIn (rest (closed l f .ledger .line .sequence))
+unfolding packetsIn handedWith among
 frame-up l (frames.refused n) rest = by-number (eqb n shortOutput)
   where
-    by-number : (t : Bool) → packetsIn (rest (l .sequence)) ≡ toldUp (cond t [] (answers.refused n ∷ [])) ++ packetsIn (rest (l .sequence))
+    by-number : (t : Bool) → packetsIn (rest (l .line .sequence)) ≡ toldUp (cond t [] (answers.refused n ∷ [])) ++ packetsIn (rest (l .line .sequence))
     by-number true = refl
     by-number false = refl
 frame-up l (frames.acknowledgement sequence) rest = refl
-frame-up l (frames.good sequence payload) rest = by-last (repeated (l .sequence) sequence) refl
+frame-up l (frames.good sequence payload) rest = by-last (repeated (l .line .sequence) sequence) refl
   where
-    by-last : (t : Bool) → repeated (l .sequence) sequence ≡ t
-        → packetsIn (behindFrame (frames.good sequence payload) (l .sequence) rest)
-        ≡ toldUp (toldBy (closed l (frames.good sequence payload) .answer)) ++ packetsIn (rest (closed l (frames.good sequence payload) .ledger .sequence))
-    by-last true e = rw e (ap (λ (o : Option ℕ). packetsIn (rest o)) (sym (repeats-last (l .sequence) sequence e)))
+    by-last : (t : Bool) → repeated (l .line .sequence) sequence ≡ t
+        → packetsIn (behindFrame (frames.good sequence payload) (l .line .sequence) rest)
+        ≡ toldUp (toldBy (closed l (frames.good sequence payload) .answer)) ++ packetsIn (rest (closed l (frames.good sequence payload) .ledger .line .sequence))
+    by-last true e = rw e (ap (λ (o : Option ℕ). packetsIn (rest o)) (sym (repeats-last (l .line .sequence) sequence e)))
     by-last false e =
         rw e (ap (λ (o : Option ℕ). payload ∷ packetsIn (rest o)) (sym (read-sequence l sequence (calls.readingBy l payload))))
 
-history-up : (l : Ledger) (es : List Event) → packetsIn (boardEventsOf (l .sequence) (marksFrom (l .run) es)) ≡ toldUp (toldInHistory l es)
-unfolding marksFrom boardEventsOf packetsIn toldInHistory handedWith packetsHanded
+history-up : (l : Ledger) (es : List Event) → packetsIn (boardEventsOf (l .line .sequence) (marksFrom (l .line .run) es)) ≡ toldUp (toldInHistory l es)
+unfolding marksFrom boardEventsOf packetsIn toldInHistory handedWith among
 history-up l [] = refl
 history-up l (minute ∷ es) = history-up (happens l minute .ledger) es
-history-up l (byte b ∷ es) = by-turn (turn (l .run) b) (λ m. history-up m es)
+history-up l (byte b ∷ es) = by-turn (turn (l .line .run) b) (λ m. history-up m es)
   where
-    by-turn : (t : Turn) → ((m : Ledger) → packetsIn (boardEventsOf (m .sequence) (marksFrom (m .run) es)) ≡ toldUp (toldInHistory m es))
-        → packetsIn (boardEventsOf (l .sequence) (behindTurn t (λ run. marksFrom run es)))
+    by-turn : (t : Turn) → ((m : Ledger) → packetsIn (boardEventsOf (m .line .sequence) (marksFrom (m .line .run) es)) ≡ toldUp (toldInHistory m es))
+        → packetsIn (boardEventsOf (l .line .sequence) (behindTurn t (λ run. marksFrom run es)))
         ≡ toldUp (atTurn l t .told ++ toldInHistory (atTurn l t .ledger) es)
     by-turn (goes-on run) rest = rest (withRun l run)
     by-turn (closes run) rest =
         let here = withRun l (some []) in
         let m = closed here (frameOf run) .ledger in
-        let empty : m .run ≡ some [] = run-kept here (frameOf run) in
+        let empty : m .line .run ≡ some [] = run-kept here (frameOf run) in
         frame-up here (frameOf run) (λ last. boardEventsOf last (marksFrom (some []) es))
         ∙ ap (λ (ps : List (List ℕ)). toldUp (toldBy (closed here (frameOf run) .answer)) ++ ps) (rw empty at (rest m))
         ∙ sym (told-up (toldBy (closed here (frameOf run) .answer)) (toldInHistory m es))

@@ -1,23 +1,22 @@
 -- The calls' ledger is the history's: a piece is its bytes that were taken, one after the other.
 use mathlib.Core.Path.{_≡_, refl, sym, ap, ap₂, _∙_}
-use mathlib.Core.Bool.{Bool, true, false, cond, _||_}
 use mathlib.Core.List.{List, [], _∷_, _++_, map, append-nil}
 use mathlib.Core.Option.{Option, some, none}
 use Prim.Native.Nat.{ℕ, suc, _-_, _≤_}
 use native.Mathlib.Omega.{arith}
-use lib.Dec.{ltb}
-use lib.ListN.{length, take}
+use lib.ListN.{take}
 use lib.Seq.{take-nil}
 use Rattle.ledger.specs.Ledger.{Ledger}
 use Rattle.ledger.specs.Frames.{Turn, goes-on, closes, turn, Taken, afterTurn, taken, Frame, frameOf}
 use Rattle.ledger.specs.Answers as answers
 use Rattle.ledger.specs.Calls as calls
 use Rattle.ledger.specs.Answers.{Call, Given, Answer}
-use Rattle.ledger.specs.Calls.{effectOf, withRun, pieceStep, shortStep, step, given, after}
+use Rattle.ledger.specs.Calls.{effectOf, withRun, step, given, after}
 use Rattle.ledger.specs.Shown.{asLeft}
 use Rattle.ledger.specs.History.{Event, byte, eventsOf, history}
 use Rattle.ledger.specs.ClosedFrames.{behindTurn, marksFrom, framesOf}
 use Rattle.ledger.proofs.ByEvents.{toldBy, atTurn, afterHistory, toldInHistory, history-append, told-append}
+use Rattle.ledger.proofs.RoomLaws.{by-room}
 
 -- the frames that a piece closed
 abbrev pub closedFrames : Option (List ℕ) → List Frame
@@ -25,7 +24,7 @@ closedFrames none = []
 closedFrames (some run) = frameOf run ∷ []
 
 -- one byte, by what it does to the run
-module _ (l : Ledger) (b : ℕ) (rest : List Event) (t : Turn) (e : turn (l .run) b ≡ t) where
+module _ (l : Ledger) (b : ℕ) (rest : List Event) (t : Turn) (e : turn (l .line .run) b ≡ t) where
   byte-ledger : afterHistory l (byte b ∷ rest) ≡ afterHistory (atTurn l t .ledger) rest
   unfolding afterHistory
   byte-ledger = ap (λ (x : Turn). afterHistory (atTurn l x .ledger) rest) e
@@ -34,7 +33,7 @@ module _ (l : Ledger) (b : ℕ) (rest : List Event) (t : Turn) (e : turn (l .run
   unfolding toldInHistory
   byte-told = ap (λ (x : Turn). atTurn l x .told ++ toldInHistory (atTurn l x .ledger) rest) e
 
-  byte-frames : framesOf (marksFrom (l .run) (byte b ∷ rest)) ≡ framesOf (behindTurn t (λ run. marksFrom run rest))
+  byte-frames : framesOf (marksFrom (l .line .run) (byte b ∷ rest)) ≡ framesOf (behindTurn t (λ run. marksFrom run rest))
   unfolding marksFrom
   byte-frames = ap (λ (x : Turn). framesOf (behindTurn x (λ run. marksFrom run rest))) e
 
@@ -43,16 +42,16 @@ pub record Same (l : Ledger) (bytes : List ℕ) (t : Taken) (n : ℕ) : Type 0 w
   pub more : n ≤ t .count
   pub ledger : afterHistory l (map byte (take (t .count - n) bytes)) ≡ effectOf (withRun l (t .run)) (t .frame) .ledger
   pub told : toldInHistory l (map byte (take (t .count - n) bytes)) ≡ toldBy (effectOf (withRun l (t .run)) (t .frame) .answer)
-  pub frames : framesOf (marksFrom (l .run) (map byte (take (t .count - n) bytes))) ≡ closedFrames (t .frame)
+  pub frames : framesOf (marksFrom (l .line .run) (map byte (take (t .count - n) bytes))) ≡ closedFrames (t .frame)
 
-pub piece-same : (bytes : List ℕ) (l : Ledger) (n : ℕ) → Same l bytes (taken (l .run) bytes n) n
+pub piece-same : (bytes : List ℕ) (l : Ledger) (n : ℕ) → Same l bytes (taken (l .line .run) bytes n) n
 unfolding taken afterHistory toldInHistory marksFrom framesOf
 piece-same [] l n =
     let none-left : take {A = ℕ} (n - n) [] ≡ [] = take-nil (n - n) in
     record { more = omega arith; ledger = rw none-left; told = rw none-left; frames = rw none-left }
-piece-same (b ∷ bs) l n = by-turn (turn (l .run) b) refl (λ run. piece-same bs (withRun l run) (suc n))
+piece-same (b ∷ bs) l n = by-turn (turn (l .line .run) b) refl (λ run. piece-same bs (withRun l run) (suc n))
   where
-    by-turn : (t : Turn) → turn (l .run) b ≡ t
+    by-turn : (t : Turn) → turn (l .line .run) b ≡ t
         → ((run : Option (List ℕ)) → Same (withRun l run) bs (taken run bs (suc n)) (suc n))
         → Same l (b ∷ bs) (afterTurn t (suc n) (λ run₁ n₁. taken run₁ bs n₁)) n
     by-turn (goes-on run) e rest =
@@ -88,15 +87,13 @@ module _ (names : List (List ℕ)) where
 
   step-same : (l : Ledger) (c : Call) → SameStep l c (step l c)
   unfolding step afterHistory toldInHistory
-  step-same l (answers.piece bytes reply packet) = by-room (ltb (length reply) 9 || ltb (length packet) 383)
-    where
-      by-room : (t : Bool)
-          → SameStep l (answers.piece bytes reply packet) (cond t (shortStep l reply packet) (pieceStep l (taken (l .run) bytes 0) reply packet))
-      by-room true = record { ledger = refl; told = refl }
-      by-room false =
-          let same = piece-same bytes l 0 in
-          let all : taken (l .run) bytes 0 .count - 0 ≡ taken (l .run) bytes 0 .count = omega arith in
-          record { ledger = sym (rw all at (same .ledger)); told = sym (rw all at (same .told)) }
+  step-same l (answers.piece bytes reply packet) =
+      by-room (SameStep l (answers.piece bytes reply packet)) l bytes reply packet
+      (λ short. record { ledger = refl; told = refl })
+      (λ reply-room packet-room.
+      let same = piece-same bytes l 0 in
+      let all : taken (l .line .run) bytes 0 .count - 0 ≡ taken (l .line .run) bytes 0 .count = omega arith in
+      record { ledger = sym (rw all at (same .ledger)); told = sym (rw all at (same .told)) })
   step-same l answers.tick = record { ledger = refl; told = refl }
 
   -- the history of a list of calls, by what the ledger gives

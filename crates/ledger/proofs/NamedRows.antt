@@ -12,9 +12,9 @@ use Rattle.slices.proofs.SameLaws.{same-equal}
 use Rattle.rows.specs.Entries as shown
 use Rattle.rows.specs.Entries.{rowShowing, boardShowing}
 use Rattle.rows.specs.Names.{placeFrom}
-use Rattle.rows.specs.Rows.{rowName, freshRow}
+use Rattle.rows.specs.Rows.{rowCount, rowName, freshRow}
 use Rattle.rows.specs.declared.Row.{Row}
-use Rattle.board.proofs.WatchLaws.{Fits, fresh-name}
+use Rattle.board.proofs.NameLaws.{Fits, fresh-name}
 use Rattle.display.specs.declared.Display.{Display}
 use Rattle.ledger.specs.Ledger.{Ledger, Entry, unheard, start, rowOf}
 use Rattle.ledger.specs.Answers.{Call}
@@ -23,7 +23,8 @@ use Rattle.ledger.specs.History.{history}
 use Rattle.ledger.specs.BoardEvents.{BoardEvent, boardEventsIn}
 use Rattle.ledger.proofs.EveryList.{Agreeing, fresh-named}
 use Rattle.ledger.proofs.SameHistory.{after-by}
-use Rattle.ledger.proofs.UpdateLaws.{lastUpdate, afterEvents, history-followed}
+use Rattle.ledger.proofs.UpdateLaws.{lastUpdate, afterEvents}
+use Rattle.ledger.proofs.HistoryUpdates.{history-followed}
 
 -- what the row of a name shows after some events
 abbrev pub rowAfter : List (List ℕ) → List BoardEvent → List ℕ → shown.Entry
@@ -34,14 +35,14 @@ rows-after all [] events = refl
 rows-after all (n ∷ names) events = ap (λ (l : List shown.Entry). rowAfter all events n ∷ l) (rows-after all names events)
 
 pub board-after : (names : List (List ℕ)) (cs : List Call) (left : List Left) (end : Display) → Agreeing names cs left end
-    → end .board ≡ boardShowing (map (rowAfter names (boardEventsIn (history cs left))) names)
+    → end .board ≡ boardShowing rowCount (map (rowAfter names (boardEventsIn (history cs left))) names)
 board-after names cs left end a =
     let events = history cs left in
     let followed = history-followed names (start names) events (fresh-named names) (a .good .once) in
     a .all .agrees .shows .showing
-    ∙ ap (λ (l : Ledger). boardShowing (map asEntry (l .entries))) (after-by names cs left (a .all .gives))
-    ∙ ap (λ (es : List Entry). boardShowing (map asEntry es)) followed
-    ∙ ap boardShowing (rows-after names names (boardEventsIn events))
+    ∙ ap (λ (l : Ledger). boardShowing rowCount (map asEntry (l .hives .entries))) (after-by names cs left (a .all .gives))
+    ∙ ap (λ (es : List Entry). boardShowing rowCount (map asEntry es)) followed
+    ∙ ap (boardShowing rowCount) (rows-after names names (boardEventsIn events))
 
 -- the row at the place of a name among the names, when they are counted from a on
 pub record RowAt (f : List ℕ → shown.Entry) (rest : List Row) (name : List ℕ) (names : List (List ℕ)) (a place : ℕ) : Type 0 where

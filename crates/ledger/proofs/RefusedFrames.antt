@@ -1,28 +1,22 @@
 -- DEMAND 1 of the display, a bad frame: it is off the line and counted, and buffers, board and last sequence are as they were, since a frame
 -- that is refused hands nothing out.
-use mathlib.Core.Path.{_≡_, refl, sym, ap, _∙_}
+use mathlib.Core.Path.{_≡_, sym, ap, _∙_}
 use mathlib.Core.Bool.{Bool, true, false, cond}
 use mathlib.Core.List.{List, [], _∷_, map}
 use mathlib.Core.Option.{Option, some, none}
-use Prim.Native.Nat.{ℕ, _-_, _≤_}
-use native.Mathlib.Omega.{arith}
-use lib.Dec.{eqb}
+use Prim.Native.Nat.{ℕ, _≤_}
 use lib.ListN.{length, take}
-use borrow.Author.Tests.{le-ltb}
-use Rattle.refusals.specs.Numbers.{unknownType, loadedAcknowledgement}
 use Rattle.slices.proofs.Impossible.{impossible}
 use Rattle.slices.specs.Put.{putAt}
-use Rattle.frame.specs.Content as content
-use Rattle.frame.specs.Reading.{readRun}
-use Rattle.frame.proofs.RefusalLaws.{run-number}
 use Rattle.rows.specs.Entries.{boardShowing}
+use Rattle.rows.specs.Rows.{rowCount}
 use Rattle.link.specs.Counts.{countOf}
 use Rattle.link.specs.declared.counts.Event.the-variants as event
 use Rattle.display.specs.declared.Answer.the-variants.{Refused}
 use Rattle.display.specs.declared.Display.{Display}
 use Rattle.ledger.specs.Ledger.{Ledger, start, plusRefused}
 use Rattle.ledger.specs.Frames as frames
-use Rattle.ledger.specs.Frames.{Frame, Taken, taken, byType, frameOf}
+use Rattle.ledger.specs.Frames.{Frame, Taken, taken, frameOf}
 use Rattle.ledger.specs.Answers.{WatchList, namesIn, Call, piece}
 use Rattle.ledger.specs.Calls as calls
 use Rattle.ledger.specs.Calls.{Effect, repeated, closed, effectOf, withRun, pieceStep, step, after}
@@ -30,34 +24,14 @@ use Rattle.ledger.specs.Shown.{asCounts, asEntry, asAnswer, Left, took, 
 use Rattle.ledger.specs.History.{Event, byte, history}
 use Rattle.ledger.specs.ClosedFrames.{Closes}
 use Rattle.ledger.proofs.CountAgreement.{count-refused}
-use Rattle.ledger.proofs.FrameAgreement.{asLast}
+use Rattle.ledger.proofs.FrameOutcomes.{asLast}
+use Rattle.ledger.proofs.FrameLaws.{frame-number}
+use Rattle.ledger.proofs.StepAgreement.{Gives}
 use Rattle.ledger.proofs.Chain.{Begins, Chain}
-use Rattle.ledger.proofs.EveryList.{Agreed, chain-agrees, Agreeing, agreeing}
+use Rattle.ledger.proofs.EveryList.{Agreeing, agreeing, next-call}
 use Rattle.ledger.proofs.HistoryLaws.{closedFrames}
-use Rattle.ledger.proofs.SameHistory.{next-given}
 use Rattle.ledger.proofs.ClosedCalls.{closes-here}
-
--- the numbers of refused frames
-frame-number : (run : List ℕ) (n : ℕ) → frameOf run ≡ frames.refused n → (1 ≤ n) × (n ≤ 6)
-unfolding frameOf
-frame-number run n e = by-read (readRun run) refl e
-  where
-    by-number : (m : ℕ) → 1 ≤ m → m ≤ 6 → frames.refused m ≡ frames.refused n → (1 ≤ n) × (n ≤ 6)
-    by-number m least most e = let same : m ≡ n = cc in rw (← same) (least, most)
-
-    by-type : (sequence : ℕ) (payload : List ℕ) (t u v : Bool)
-        → cond t (frames.good sequence payload) (cond u (cond v (frames.acknowledgement sequence) (frames.refused loadedAcknowledgement)) (frames.refused unknownType))
-        ≡ frames.refused n → (1 ≤ n) × (n ≤ 6)
-    by-type sequence payload true u v e = impossible cc
-    by-type sequence payload false true true e = impossible cc
-    by-type sequence payload false true false e = by-number loadedAcknowledgement (omega arith) (omega arith) e
-    by-type sequence payload false false v e = by-number unknownType (omega arith) (omega arith) e
-
-    by-read : (found : content.Read) → readRun run ≡ found → byType found ≡ frames.refused n → (1 ≤ n) × (n ≤ 6)
-    by-read (content.refused m) f e =
-        let known = run-number m run f in
-        by-number m (known .0) (omega (arith, known .1)) e
-    by-read (content.frame kind sequence payload) f e = by-type sequence payload (eqb kind 0x01) (eqb kind 0x02) (eqb (length payload) 0) e
+use Rattle.ledger.proofs.RoomLaws.{with-room}
 
 -- an effect that is answered by a refusal
 record Kept (l : Ledger) (n : ℕ) (frame : Option (List ℕ)) : Type 0 where
@@ -65,15 +39,15 @@ record Kept (l : Ledger) (n : ℕ) (frame : Option (List ℕ)) : Type 0 where
   closes : closedFrames frame ≡ frames.refused n ∷ []
   reply : effectOf l frame .reply ≡ []
   packet : effectOf l frame .packet ≡ []
-  entries : effectOf l frame .ledger .entries ≡ l .entries
-  counts : effectOf l frame .ledger .counts ≡ plusRefused n (l .counts)
-  sequence : effectOf l frame .ledger .sequence ≡ l .sequence
+  entries : effectOf l frame .ledger .hives .entries ≡ l .hives .entries
+  counts : effectOf l frame .ledger .line .counts ≡ plusRefused n (l .line .counts)
+  sequence : effectOf l frame .ledger .line .sequence ≡ l .line .sequence
 
 module _ (names : List (List ℕ)) (n : ℕ) (l : Ledger) where
   frame-refused : (f : Frame) → asAnswer names (closed l f .answer) ≡ Refused n → f ≡ frames.refused n
   frame-refused (frames.refused k) e = let same : k ≡ n = cc in ap frames.refused same
   frame-refused (frames.acknowledgement sequence) e = impossible cc
-  frame-refused (frames.good sequence payload) e = by-last (repeated (l .sequence) sequence) e
+  frame-refused (frames.good sequence payload) e = by-last (repeated (l .line .sequence) sequence) e
     where
       by-last : (t : Bool) → asAnswer names (cond t (calls.repeatedFrame l sequence) (calls.newFrame l sequence payload) .answer) ≡ Refused n
           → frames.good sequence payload ≡ frames.refused n
@@ -105,11 +79,6 @@ pub record OffTheLine (n : ℕ) (events further : List Event) (reply packet : Li
   pub last-kept : behind .link .last ≡ before .link .last
   pub counts : behind .link .counts ≡ countOf (event.Refused n) (before .link .counts)
 
-with-room : (l : Ledger) (bytes reply packet : List ℕ) → 9 ≤ length reply → 383 ≤ length packet
-    → step l (piece bytes reply packet) ≡ pieceStep l (taken (l .run) bytes 0) reply packet
-unfolding step
-with-room l bytes reply packet r p = rw (le-ltb (length reply) 9 r, le-ltb (length packet) 383 p)
-
 module _ (names : List (List ℕ)) (cs : List Call) (left : List Left) (end : Display) (a : Agreeing names cs left end)
     (bytes reply packet : List ℕ) (r : 9 ≤ length reply) (p : 383 ≤ length packet) (n count : ℕ) (reply₁ packet₁ : List ℕ) (end₁ : Display)
     (next : Chain end (piece bytes reply packet ∷ []) (took count (Refused n) reply₁ packet₁ ∷ []) end₁) where
@@ -117,21 +86,19 @@ module _ (names : List (List ℕ)) (cs : List Call) (left : List Left) (end : Di
   l = after (start names) cs
 
   abbrev t : Taken
-  t = taken (l .run) bytes 0
+  t = taken (l .line .run) bytes 0
 
   abbrev effect : Effect
   effect = effectOf (withRun l (t .run)) (t .frame)
 
-  one : Agreed names l (piece bytes reply packet ∷ []) (took count (Refused n) reply₁ packet₁ ∷ []) end₁
-  one = chain-agrees names (a .fit) l next (a .all .agrees)
+  one : Gives names (step l (piece bytes reply packet)) (took count (Refused n) reply₁ packet₁) end₁
+  one = next-call a next
 
   ledger-is : step l (piece bytes reply packet) .ledger ≡ effect .ledger
   ledger-is = ap (λ (s : calls.Step). s .ledger) (with-room l bytes reply packet r p)
 
   gave : took count (Refused n) reply₁ packet₁ ≡ asLeft names (pieceStep l t reply packet .given)
-  gave =
-      next-given names l (piece bytes reply packet) (took count (Refused n) reply₁ packet₁) (one .gives)
-      ∙ ap (λ (s : calls.Step). asLeft names (s .given)) (with-room l bytes reply packet r p)
+  gave = one .gives ∙ ap (λ (s : calls.Step). asLeft names (s .given)) (with-room l bytes reply packet r p)
 
   kept : Kept (withRun l (t .run)) n (t .frame)
   kept = let said = gave in effect-kept names n (withRun l (t .run)) (t .frame) (let same : asAnswer names (effect .answer) ≡ Refused n = cc in same)
@@ -143,7 +110,6 @@ module _ (names : List (List ℕ)) (cs : List Call) (left : List Left) (end : Di
       closes-here names cs left end a bytes count (frames.refused n) all (kept .closes)
 
   off-the-line : OffTheLine n (history cs left) (map byte (take count bytes)) reply packet end reply₁ packet₁ end₁
-  unfolding after
   off-the-line =
       let said = gave in
       let replied : reply₁ ≡ putAt reply 0 (effect .reply) = cc in
@@ -155,16 +121,16 @@ module _ (names : List (List ℕ)) (cs : List Call) (left : List Left) (end : Di
         packet-kept = handed ∙ ap (putAt packet 0) (kept .packet);
         board-kept =
             one .agrees .shows .showing
-            ∙ ap (λ (m : Ledger). boardShowing (map asEntry (m .entries))) ledger-is
+            ∙ ap (λ (m : Ledger). boardShowing rowCount (map asEntry (m .hives .entries))) ledger-is
             ∙ rw (kept .entries) (sym (a .all .agrees .shows .showing));
         last-kept =
             one .agrees .last-is
-            ∙ ap (λ (m : Ledger). asLast (m .sequence)) ledger-is
+            ∙ ap (λ (m : Ledger). asLast (m .line .sequence)) ledger-is
             ∙ rw (kept .sequence) (sym (a .all .agrees .last-is));
         counts =
             one .agrees .counts-are
-            ∙ ap (λ (m : Ledger). asCounts (m .counts)) ledger-is
-            ∙ rw (kept .counts) (sym (ap (countOf (event.Refused n)) (a .all .agrees .counts-are) ∙ count-refused (l .counts) n));
+            ∙ ap (λ (m : Ledger). asCounts (m .line .counts)) ledger-is
+            ∙ rw (kept .counts) (sym (ap (countOf (event.Refused n)) (a .all .agrees .counts-are) ∙ count-refused (l .line .counts) n));
       }
 
 -- THEOREM. After every list of calls: where the next call has room and is answered by a refusal, it is a frame's, from 1 to 6. The frame is off

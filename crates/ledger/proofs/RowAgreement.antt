@@ -18,7 +18,7 @@ use Rattle.rows.specs.Names.{placeFrom}
 use Rattle.rows.specs.Rows.{tickState}
 use Rattle.rows.specs.declared.State.the-variants.{Current, Silent}
 use Rattle.slices.proofs.SameLaws.{same-lengths}
-use Rattle.ledger.specs.Ledger.{Update, Entry, nameOf, updated, older, olderEntry, current, silent, rowOf}
+use Rattle.ledger.specs.Ledger.{Update, Entry, nameOf, updated, older, olderEntry, current, silent, rowOf, withLast}
 use Rattle.ledger.specs.Shown.{asState, asEntry}
 
 -- an update of a name
@@ -29,7 +29,7 @@ entries-updated name value (e ∷ es) = cases (sameBytes (e .name) name) (entrie
   where
     cases : (t : Bool) → updateEntries name value (map asEntry es) ≡ map asEntry (updated name value es)
         → cond t (record { name = e .name; state = asState (rowOf (some (record { value = value; ticks = 0 }))) } ∷ map asEntry es) (asEntry e ∷ updateEntries name value (map asEntry es))
-        ≡ map asEntry (cond t (record { name = e .name; last = some (record { value = value; ticks = 0 }) } ∷ es) (e ∷ updated name value es))
+        ≡ map asEntry (cond t (withLast e (some (record { value = value; ticks = 0 })) ∷ es) (e ∷ updated name value es))
     cases true rest = refl
     cases false rest = ap (λ (l : List shown.Entry). asEntry e ∷ l) rest
 
@@ -59,7 +59,7 @@ names-updated name value [] = refl
 names-updated name value (e ∷ es) = cases (sameBytes (e .name) name) (names-updated name value es)
   where
     cases : (t : Bool) → map nameOf (updated name value es) ≡ map nameOf es
-        → map nameOf (cond t (record { name = e .name; last = some (record { value = value; ticks = 0 }) } ∷ es) (e ∷ updated name value es)) ≡ map nameOf (e ∷ es)
+        → map nameOf (cond t (withLast e (some (record { value = value; ticks = 0 })) ∷ es) (e ∷ updated name value es)) ≡ map nameOf (e ∷ es)
     cases true rest = refl
     cases false rest = ap (λ (l : List (List ℕ)). e .name ∷ l) rest
 

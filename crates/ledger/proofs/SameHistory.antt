@@ -1,14 +1,15 @@
 -- DEMAND 3, cuts of the byte stream do not matter: what the calls took and the ticks settle the ledger, so lists of calls with the same
 -- history are alike in all that they answered and handed out, in counts and board, and in all that comes behind.
 use mathlib.Core.Path.{_≡_, sym, ap, _∙_}
-use mathlib.Core.List.{List, [], _∷_, map}
+use mathlib.Core.List.{List, map}
 use mathlib.Core.Option.{some}
 use Prim.Native.Nat.{ℕ}
 use Rattle.rows.specs.Entries.{boardShowing}
+use Rattle.rows.specs.Rows.{rowCount}
 use Rattle.display.specs.declared.Display.{Display}
 use Rattle.ledger.specs.Ledger.{Ledger, start}
 use Rattle.ledger.specs.Answers.{WatchList, namesIn, Call, Answer}
-use Rattle.ledger.specs.Calls.{step, given, after}
+use Rattle.ledger.specs.Calls.{given, after}
 use Rattle.ledger.specs.Shown.{asCounts, asEntry, asAnswer, Left, asLeft}
 use Rattle.ledger.specs.History.{Event, history, allHanded, allAnswers}
 use Rattle.ledger.proofs.Chain.{Begins, Chain}
@@ -36,11 +37,6 @@ pub record Alike (left left₁ : List Left) (end end₁ : Display) : Type 0 wher
       → SameNext more more₁ then then₁
 
 module _ (names : List (List ℕ)) where
-  -- one call, by what the ledger gives
-  pub next-given : (l : Ledger) (c : Call) (more : Left) → more ∷ [] ≡ map (asLeft names) (given l (c ∷ [])) → more ≡ asLeft names (step l c .given)
-  unfolding given
-  next-given l c more e = cc
-
   -- what a list of calls told, by its history
   pub told-by : (cs : List Call) (left : List Left) → left ≡ map (asLeft names) (given (start names) cs)
       → toldOut names (start names) cs ≡ toldInHistory (start names) (history cs left)
@@ -79,11 +75,11 @@ module _ (names : List (List ℕ)) where
               ∙ sym (ap allHanded (two .all .gives) ∙ all-handed names (start names) cs₁);
           counts =
               one .all .agrees .counts-are
-              ∙ ap (λ (m : Ledger). asCounts (m .counts)) same-ledger
+              ∙ ap (λ (m : Ledger). asCounts (m .line .counts)) same-ledger
               ∙ sym (two .all .agrees .counts-are);
           board =
               one .all .agrees .shows .showing
-              ∙ ap (λ (m : Ledger). boardShowing (map asEntry (m .entries))) same-ledger
+              ∙ ap (λ (m : Ledger). boardShowing rowCount (map asEntry (m .hives .entries))) same-ledger
               ∙ sym (two .all .agrees .shows .showing);
           next =
               λ ds more more₁ then then₁ calls calls₁.
@@ -93,11 +89,11 @@ module _ (names : List (List ℕ)) where
                 answered = here .gives ∙ ap (λ (m : Ledger). map (asLeft names) (given m ds)) same-ledger ∙ sym (there .gives);
                 counts =
                     here .agrees .counts-are
-                    ∙ ap (λ (m : Ledger). asCounts (after m ds .counts)) same-ledger
+                    ∙ ap (λ (m : Ledger). asCounts (after m ds .line .counts)) same-ledger
                     ∙ sym (there .agrees .counts-are);
                 board =
                     here .agrees .shows .showing
-                    ∙ ap (λ (m : Ledger). boardShowing (map asEntry (after m ds .entries))) same-ledger
+                    ∙ ap (λ (m : Ledger). boardShowing rowCount (map asEntry (after m ds .hives .entries))) same-ledger
                     ∙ sym (there .agrees .shows .showing);
               };
         }

@@ -1,169 +1,34 @@
--- One call keeps display and ledger in agreement, and gives what the ledger gives: the walk over its piece reaches the same
--- run, and the frame that it closes does the same to both.
-use mathlib.Core.Path.{_≡_, refl, ap, ap₂, _∙_, subst⁻¹}
-use mathlib.Core.Bool.{Bool, true, false, cond, _||_}
+-- What it means that display and ledger agree, and that a call keeps it; a tick does, since each row is one tick older in both.
+use mathlib.Core.Path.{_≡_, refl, ap, _∙_}
 use mathlib.Core.List.{List, map}
-use mathlib.Core.Option.{Option, some, none}
-use Prim.Native.Nat.{ℕ, _≤_}
-use lib.Dec.{ltb}
-use lib.ListN.{length}
-use borrow.Author.Tests.{ltb-true, ltb-false}
-use Rattle.slices.specs.Put.{putAt}
-use Rattle.frame.specs.Stuffing.{contentMax}
-use Rattle.frame.specs.Reading.{readRun}
+use Prim.Native.Nat.{ℕ}
 use Rattle.rows.specs.Entries.{boardShowing}
-use Rattle.rows.specs.Rows.{tickBoard}
-use Rattle.rows.specs.declared.Board.{Board}
+use Rattle.rows.specs.Rows.{rowCount, tickBoard}
 use Rattle.rows.proofs.EntryLaws.{tick-showing}
-use Rattle.board.specs.Reading as reading
-use Rattle.board.specs.Reading.{Verdict}
-use Rattle.board.proofs.WatchLaws.{Fits}
-use Rattle.link.specs.Closing.{Outcome, closeOf}
-use Rattle.link.specs.Receiving.{callOf, shortCall, walkCall}
 use Rattle.link.specs.Seen.{Ours}
-use Rattle.link.specs.Walk.{Walk, walkOf}
-use Rattle.link.specs.declared.counts.Counts as link-counts
-use Rattle.link.specs.declared.reader.Ended.{Ended}
-use Rattle.link.specs.declared.receiver.Last.{Last}
-use Rattle.link.proofs.OursLaws.{walk-within}
-use Rattle.link.proofs.ReceivingLaws.{short-reply, short-packet, room-for-both}
-use Rattle.link.proofs.WalkLaws.{walk-length}
-use Rattle.display.specs.Display.{resultOf, outcomeOf, receivePiece, DisplaysAs, tickDisplay}
-use Rattle.display.specs.declared.Answer as display-answer
+use Rattle.display.specs.Display.{tickDisplay}
 use Rattle.display.specs.declared.Display.{Display}
-use Rattle.display.specs.declared.Received.{Received}
 use Rattle.ledger.specs.Ledger.{Ledger}
-use Rattle.ledger.specs.Frames as frames
-use Rattle.ledger.specs.Frames.{Frame, Taken, taken, frameOf}
 use Rattle.ledger.specs.Calls as calls
-use Rattle.ledger.specs.Answers.{piece, tick}
-use Rattle.ledger.specs.Calls.{Effect, afterReading, closed, effectOf, withRun, pieceStep, shortStep, step}
-use Rattle.ledger.specs.Shown.{asCounts, asEntry, Left, took, ticked, asLeft}
-use Rattle.ledger.proofs.RunAgreement.{Standing, Reached, Agreement, agree}
+use Rattle.ledger.specs.Answers.{tick}
+use Rattle.ledger.specs.Calls.{step}
+use Rattle.ledger.specs.Shown.{asCounts, asEntry, Left, ticked, asLeft}
+use Rattle.ledger.proofs.RunAgreement.{Standing}
 use Rattle.ledger.proofs.RowAgreement.{entries-older, names-older}
-use Rattle.ledger.proofs.FrameAgreement.{asLast, read-by-type, Shows, Effects, frame-agrees, nothing-agrees}
+use Rattle.ledger.proofs.FrameOutcomes.{asLast, Shows}
 
 -- display and ledger agree
 pub record Agrees (names : List (List ℕ)) (l : Ledger) (d : Display) : Type 0 where
   pub ours : Ours (d .link)
-  pub standing : Standing (l .run) (d .link .content) (d .link .reader)
-  pub last-is : d .link .last ≡ asLast (l .sequence)
-  pub counts-are : d .link .counts ≡ asCounts (l .counts)
-  pub shows : Shows names (l .entries) (d .board)
-
--- a frame leaves the run alone
-read-run-kept : (l : Ledger) (v : Verdict) → afterReading l v .run ≡ l .run
-read-run-kept l (reading.refused n) = refl
-read-run-kept l reading.endMark = refl
-read-run-kept l (reading.update name value) = refl
-
-pub run-kept : (l : Ledger) (f : Frame) → closed l f .ledger .run ≡ l .run
-run-kept l (frames.refused n) = refl
-run-kept l (frames.acknowledgement sequence) = refl
-run-kept l (frames.good sequence payload) = cases (calls.repeated (l .sequence) sequence)
-  where
-    cases : (t : Bool) → cond t (calls.repeatedFrame l sequence) (calls.newFrame l sequence payload) .ledger .run ≡ l .run
-    cases true = refl
-    cases false = read-run-kept (calls.afterNew l sequence) (calls.readingBy l payload)
-
-effect-run : (l : Ledger) (frame : Option (List ℕ)) → effectOf l frame .ledger .run ≡ l .run
-effect-run l none = refl
-effect-run l (some run) = run-kept l (frameOf run)
-
-standing-reached : (run frame : Option (List ℕ)) (w : Walk) → Reached run frame w → Standing run (w .content) (w .reader)
-standing-reached run none w r = r .1
-standing-reached run (some frame) w r = r .0
-
-same-left : {n n₁ : ℕ} {answer answer₁ : display-answer.Answer} {reply reply₁ packet packet₁ : List ℕ}
-    → n ≡ n₁ → answer ≡ answer₁ → reply ≡ reply₁ → packet ≡ packet₁ → took n answer reply packet ≡ took n₁ answer₁ reply₁ packet₁
-same-left a b c d = cc
+  pub standing : Standing (l .line .run) (d .link .content) (d .link .reader)
+  pub last-is : d .link .last ≡ asLast (l .line .sequence)
+  pub counts-are : d .link .counts ≡ asCounts (l .line .counts)
+  pub shows : Shows names (l .hives .entries) (d .board)
 
 -- what a call gives, with what it leaves behind
 pub record Gives (names : List (List ℕ)) (s : calls.Step) (left : Left) (d : Display) : Type 0 where
   pub gives : left ≡ asLeft names (s .given)
   pub agrees : Agrees names (s .ledger) d
-
--- what the frame that a walk closed does, if it closed one
-module _ (names : List (List ℕ)) (fit : Fits names) (l : Ledger) (board : Board) (shows₀ : Shows names (l .entries) board)
-    (last : Last) (counts : link-counts.Counts) (last-is₀ : last ≡ asLast (l .sequence)) (counts-are₀ : counts ≡ asCounts (l .counts)) where
-  abbrev EffectsOf : Walk → Outcome → Effect → Type 0
-  EffectsOf w o e = Effects names w (resultOf (o .answer) board (callOf w o)) (o .reply) (o .packet) e
-
-  walk-effects : (run frame : Option (List ℕ)) (w : Walk) → Reached run frame w
-      → EffectsOf w (closeOf (w .ended) (w .content) last counts) (effectOf (withRun l run) frame)
-  unfolding frameOf
-  walk-effects run none w r =
-      nothing-agrees names fit w (withRun l run) board shows₀ (closeOf (w .ended) (w .content) last counts)
-      (ap₂ (λ (x : Last) (y : link-counts.Counts). closeOf (w .ended) (w .content) x y) last-is₀ counts-are₀
-      ∙ ap (λ (end : Ended). closeOf end (w .content) (asLast (l .sequence)) (asCounts (l .counts))) (r .0))
-  walk-effects run (some frame) w r =
-      subst⁻¹ (λ (o : Outcome). EffectsOf w o (effectOf (withRun l run) (some frame)))
-      (ap₂ (λ (x : Last) (y : link-counts.Counts). closeOf (w .ended) (w .content) x y) last-is₀ counts-are₀
-      ∙ r .1 (asLast (l .sequence)) (asCounts (l .counts))
-      ∙ read-by-type (readRun frame) (asLast (l .sequence)) (asCounts (l .counts)))
-      (frame-agrees names fit w (withRun l run) board shows₀ (frameOf frame))
-
--- a call whose buffers have room
-module _ (names : List (List ℕ)) (fit : Fits names) (l : Ledger) (d : Display) (a : Agrees names l d) (bytes reply packet : List ℕ) where
-  long-agrees : (t : Taken) (w : Walk) → Agreement t w → length (w .content) ≡ contentMax → w .reader .length ≤ contentMax
-      → (result : Received) (reply₁ packet₁ : List ℕ) → DisplaysAs (outcomeOf (d .board) (walkCall (d .link) w)) reply packet result reply₁ packet₁
-      → Gives names (pieceStep l t reply packet) (took (result .taken) (result .answer) reply₁ packet₁) (result .display)
-  unfolding walkCall
-  long-agrees t w both whole within result reply₁ packet₁ does =
-      let e = walk-effects names fit l (d .board) (a .shows) (d .link .last) (d .link .counts) (a .last-is) (a .counts-are) (t .run) (t .frame) w (both .reached) in
-      let standing = standing-reached (t .run) (t .frame) w (both .reached) in
-      let run = effect-run (withRun l (t .run)) (t .frame) in
-      rw (does .answers, does .replied, does .handed-out)
-      (record {
-        gives = same-left (e .counted ∙ both .counted) (e .answers) (ap (putAt reply 0) (e .replied)) (ap (putAt packet 0) (e .handed));
-        agrees =
-            record {
-              ours = record { whole = rw (e .content-is) whole; within = rw (e .reader-is) within };
-              standing = rw (run, e .content-is, e .reader-is) standing;
-              last-is = e .last-is;
-              counts-are = e .counts-are;
-              shows = e .shows;
-            };
-      })
-
-  short-agrees : (result : Received) (reply₁ packet₁ : List ℕ) → DisplaysAs (outcomeOf (d .board) (shortCall (d .link))) reply packet result reply₁ packet₁
-      → Gives names (shortStep l reply packet) (took (result .taken) (result .answer) reply₁ packet₁) (result .display)
-  short-agrees result reply₁ packet₁ does =
-      rw (does .answers, does .replied, does .handed-out)
-      (record {
-        gives = refl;
-        agrees = record { ours = a .ours; standing = a .standing; last-is = a .last-is; counts-are = a .counts-are; shows = a .shows };
-      })
-
-  -- the step by the two tests of the buffers
-  abbrev Stepped : Received → List ℕ → List ℕ → Bool → Bool → Type 0
-  Stepped result reply₁ packet₁ t u =
-      Gives names (cond (t || u) (shortStep l reply packet) (pieceStep l (taken (l .run) bytes 0) reply packet))
-      (took (result .taken) (result .answer) reply₁ packet₁) (result .display)
-
-  pub piece-agrees : (result : Received) (reply₁ packet₁ : List ℕ)
-      → DisplaysAs (receivePiece d bytes (length reply) (length packet)) reply packet result reply₁ packet₁
-      → Gives names (step l (piece bytes reply packet)) (took (result .taken) (result .answer) reply₁ packet₁) (result .display)
-  unfolding step receivePiece
-  piece-agrees result reply₁ packet₁ does = by-reply (ltb (length reply) 9) refl
-    where
-      by-packet : 9 ≤ length reply → (u : Bool) → ltb (length packet) 383 ≡ u → Stepped result reply₁ packet₁ false u
-      by-packet h true f =
-          let is = short-packet (d .link) bytes (length reply) (length packet) h (ltb-true (length packet) 383 f) in
-          short-agrees result reply₁ packet₁ (rw is at does)
-      by-packet h false f =
-          let is = room-for-both (d .link) bytes (length reply) (length packet) h (ltb-false (length packet) 383 f) in
-          long-agrees (taken (l .run) bytes 0) (walkOf bytes (d .link .content) (d .link .reader) 0)
-          (agree bytes 0 (d .link .content) (d .link .reader) (l .run) (a .ours .whole) (a .ours .within) (a .standing))
-          (walk-length bytes (d .link .content) (d .link .reader) 0 ∙ a .ours .whole)
-          (walk-within bytes (d .link .content) (d .link .reader) 0 (a .ours .whole) (a .ours .within))
-          result reply₁ packet₁ (rw is at does)
-
-      by-reply : (t : Bool) → ltb (length reply) 9 ≡ t → Stepped result reply₁ packet₁ (ltb (length reply) 9) (ltb (length packet) 383)
-      by-reply true e =
-          let is = short-reply (d .link) bytes (length reply) (length packet) (ltb-true (length reply) 9 e) in
-          rw e (short-agrees result reply₁ packet₁ (rw is at does))
-      by-reply false e = rw e (by-packet (ltb-false (length reply) 9 e) (ltb (length packet) 383) refl)
 
 -- a tick
 pub tick-agrees : (names : List (List ℕ)) (l : Ledger) (d : Display) → Agrees names l d → Gives names (step l tick) ticked (tickDisplay d)
@@ -179,8 +44,8 @@ tick-agrees names l d a =
             counts-are = a .counts-are;
             shows =
                 record {
-                  showing = ap tickBoard (a .shows .showing) ∙ tick-showing (map asEntry (l .entries)) ∙ ap boardShowing (entries-older (l .entries));
-                  named = names-older (l .entries) ∙ a .shows .named;
+                  showing = ap tickBoard (a .shows .showing) ∙ tick-showing (map asEntry (l .hives .entries)) ∙ ap (boardShowing rowCount) (entries-older (l .hives .entries));
+                  named = names-older (l .hives .entries) ∙ a .shows .named;
                 };
           };
     }

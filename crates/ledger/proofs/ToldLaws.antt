@@ -12,7 +12,7 @@ use Rattle.ledger.specs.Answers as answers
 use Rattle.ledger.specs.Answers.{Call, Given, Answer}
 use Rattle.ledger.specs.Calls.{step, given}
 use Rattle.ledger.specs.Shown.{asAnswer, asLeft}
-use Rattle.ledger.specs.History.{Handed, allHanded, answersAs, answersLeft, allAnswers}
+use Rattle.ledger.specs.History.{Handed, among, allHanded, answersAs, answersLeft, allAnswers}
 use Rattle.ledger.proofs.ByEvents.{toldBy}
 use Rattle.ledger.proofs.HistoryLaws.{toldIn, toldOut}
 use Rattle.ledger.proofs.HandedLaws.{handedBy, handedIn, step-handed}
@@ -26,6 +26,11 @@ pub handed-append : (xs ys : List Answer) → handedWith (xs ++ ys) ≡ handedWi
 unfolding handedWith
 handed-append [] ys = refl
 handed-append (x ∷ xs) ys = ap (λ (r : List Handed). handedBy x ++ r) (handed-append xs ys) ∙ sym (append-assoc (handedBy x) (handedWith xs) (handedWith ys))
+
+pub among-append : (sort : Handed → List (List ℕ)) (xs ys : List Handed) → among sort (xs ++ ys) ≡ among sort xs ++ among sort ys
+unfolding among
+among-append sort [] ys = refl
+among-append sort (x ∷ xs) ys = ap (λ (r : List (List ℕ)). sort x ++ r) (among-append sort xs ys) ∙ sym (append-assoc (sort x) (among sort xs) (among sort ys))
 
 told-handed : (a : Answer) → handedBy a ≡ handedWith (toldBy a)
 unfolding handedWith

@@ -2,6 +2,7 @@
 use Prim.Native.Nat.{ℕ}
 use mathlib.Core.List.{List}
 use mathlib.Core.Option.{Option, some}
+use Rattle.rows.specs.Rows.{rowCount}
 use Rattle.board.specs.Reading.{Verdict}
 use Rattle.board.specs.WatchList.{watchNames}
 
@@ -11,7 +12,7 @@ pub data WatchList : Type 0 where
   one-by-one : List (List ℕ) → WatchList
 
 abbrev pub namesIn : WatchList → Option (List (List ℕ))
-namesIn (as-bytes fields) = watchNames fields
+namesIn (as-bytes fields) = watchNames rowCount fields
 namesIn (one-by-one names) = some names
 
 -- a piece with its two buffers, or a tick

@@ -10,7 +10,7 @@ use Rattle.slices.specs.Put.{putAt}
 use Rattle.frame.specs.Writing as writing
 use Rattle.board.specs.Reading as reading
 use Rattle.board.specs.Reading.{Verdict, readingOf}
-use Rattle.ledger.specs.Ledger.{Counts, Ledger, nameOf, plusNew, plusAgain, plusHeard, plusUnread, plusRefused, updated, olderEntry}
+use Rattle.ledger.specs.Ledger.{Counts, Ledger, withLine, withEntries, nameOf, plusNew, plusAgain, plusHeard, plusUnread, plusRefused, updated, olderEntry}
 use Rattle.ledger.specs.Answers.{Call, piece, tick, Answer, nothing, refused, heard, again, new, Given, took, ticked}
 use Rattle.ledger.specs.Frames as frames
 use Rattle.ledger.specs.Frames.{Frame, Taken, taken, frameOf}
@@ -23,13 +23,13 @@ pub record Effect : Type 0 where
   pub packet : List ℕ
 
 abbrev pub withCounts : Ledger → Counts → Ledger
-withCounts l counts = record { run = l .run; sequence = l .sequence; counts = counts; entries = l .entries }
+withCounts l counts = withLine l (record { run = l .line .run; sequence = l .line .sequence; counts = counts })
 
 -- refused: its count plus 1
 abbrev pub refusedFrame : Ledger → ℕ → Effect
 refusedFrame l n =
     record {
-      ledger = withCounts l (plusRefused n (l .counts));
+      ledger = withCounts l (plusRefused n (l .line .counts));
       answer = refused n;
       reply = [];
       packet = [];
@@ -39,7 +39,7 @@ refusedFrame l n =
 abbrev pub heardFrame : Ledger → ℕ → Effect
 heardFrame l sequence =
     record {
-      ledger = withCounts l (plusHeard (l .counts));
+      ledger = withCounts l (plusHeard (l .line .counts));
       answer = heard sequence;
       reply = [];
       packet = [];
@@ -57,7 +57,7 @@ repeated (some before) sequence = cond (eqb sequence 0) false (eqb sequence befo
 abbrev pub repeatedFrame : Ledger → ℕ → Effect
 repeatedFrame l sequence =
     record {
-      ledger = withCounts l (plusAgain (l .counts));
+      ledger = withCounts l (plusAgain (l .line .counts));
       answer = again sequence;
       reply = answerTo sequence;
       packet = [];
@@ -66,24 +66,17 @@ repeatedFrame l sequence =
 -- refused by the board, unread plus 1; end mark, nothing; all else is an accepted update, 0 ticks old
 abbrev pub afterReading : Ledger → Verdict → Ledger
 afterReading l (reading.refused n) =
-    withCounts l (plusUnread (l .counts))
-afterReading l reading.endMark = l
-afterReading l (reading.update name value) =
-    record { run = l .run; sequence = l .sequence; counts = l .counts; entries = updated name value (l .entries) }
+    withCounts l (plusUnread (l .line .counts))
+afterReading l (reading.endMark id) = l
+afterReading l (reading.update id name value) = withEntries l (updated name value (l .hives .entries))
 
 -- else new plus 1, its sequence is the last
 abbrev pub afterNew : Ledger → ℕ → Ledger
-afterNew l sequence =
-    record {
-      run = l .run;
-      sequence = some sequence;
-      counts = plusNew (l .counts);
-      entries = l .entries;
-    }
+afterNew l sequence = withLine l (record { run = l .line .run; sequence = some sequence; counts = plusNew (l .line .counts) })
 
 -- its payload is handed up and read at once by the board rules
 abbrev pub readingBy : Ledger → List ℕ → Verdict
-readingBy l payload = readingOf (map nameOf (l .entries)) payload
+readingBy l payload = readingOf (map nameOf (l .hives .entries)) payload
 
 abbrev pub newFrame : Ledger → ℕ → List ℕ → Effect
 newFrame l sequence payload =
@@ -98,7 +91,7 @@ abbrev pub closed : Ledger → Frame → Effect
 closed l (frames.refused n) = refusedFrame l n
 closed l (frames.acknowledgement sequence) = heardFrame l sequence
 closed l (frames.good sequence payload) =
-    cond (repeated (l .sequence) sequence) (repeatedFrame l sequence) (newFrame l sequence payload)
+    cond (repeated (l .line .sequence) sequence) (repeatedFrame l sequence) (newFrame l sequence payload)
 
 -- a piece with the frame that it closed, if it closed one
 abbrev pub effectOf : Ledger → Option (List ℕ) → Effect
@@ -106,7 +99,11 @@ effectOf l none = record { ledger = l; answer = nothing; reply = []; packet = []
 effectOf l (some run) = closed l (frameOf run)
 
 abbrev pub withRun : Ledger → Option (List ℕ) → Ledger
-withRun l run = record { run = run; sequence = l .sequence; counts = l .counts; entries = l .entries }
+withRun l run = withLine l (record { run = run; sequence = l .line .sequence; counts = l .line .counts })
+
+-- tick: 1 more on each name's ticks
+abbrev pub afterTick : Ledger → Ledger
+afterTick l = withEntries l (map olderEntry (l .hives .entries))
 
 -- a step: what is given, and the ledger after it
 pub record Step : Type 0 where
@@ -127,12 +124,8 @@ shortStep l reply packet = record { given = took 0 (refused shortOutput) reply p
 
 unfoldable pub step : Ledger → Call → Step
 step l (piece bytes reply packet) =
-    cond (ltb (length reply) 9 || ltb (length packet) 383) (shortStep l reply packet) (pieceStep l (taken (l .run) bytes 0) reply packet)
-step l tick =
-    record {
-      given = ticked;
-      ledger = record { run = l .run; sequence = l .sequence; counts = l .counts; entries = map olderEntry (l .entries) };
-    }
+    cond (ltb (length reply) 9 || ltb (length packet) 383) (shortStep l reply packet) (pieceStep l (taken (l .line .run) bytes 0) reply packet)
+step l tick = record { given = ticked; ledger = afterTick l }
 
 -- the whole list of calls: all that is given, in order, and the ledger afterwards
 unfoldable pub given : Ledger → List Call → List Given

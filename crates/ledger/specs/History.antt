@@ -2,7 +2,6 @@
 use Prim.Native.Nat.{ℕ}
 use mathlib.Core.Bool.{cond}
 use mathlib.Core.List.{List, [], _∷_, _++_, map}
-use mathlib.Core.Option.{Option, some, none}
 use lib.Dec.{eqb}
 use lib.ListN.{take}
 use Rattle.refusals.specs.Numbers.{shortOutput}
@@ -38,18 +37,18 @@ eventsIn [] = []
 eventsIn (cut bytes ∷ parts) = map byte bytes ++ eventsIn parts
 eventsIn (pause ∷ parts) = minute ∷ eventsIn parts
 
--- what is handed out: a reply, and with a new packet its payload
-pub record Handed : Type 0 where
-  pub reply : List ℕ
-  pub packet : Option (List ℕ)
+-- what is handed out: a reply to the module, or a packet from it
+pub data Handed : Type 0 where
+  as-reply : List ℕ → Handed
+  as-packet : List ℕ → Handed
 
 -- it stands at the start of the buffers, as long as the answer says
 abbrev pub handedAs : Answer → List ℕ → List ℕ → List Handed
 handedAs Nothing reply packet = []
 handedAs (Refused n) reply packet = []
 handedAs (Heard sequence) reply packet = []
-handedAs (Again replied) reply packet = record { reply = take replied reply; packet = none } ∷ []
-handedAs (New replied size verdict) reply packet = record { reply = take replied reply; packet = some (take size packet) } ∷ []
+handedAs (Again replied) reply packet = as-reply (take replied reply) ∷ []
+handedAs (New replied size verdict) reply packet = as-reply (take replied reply) ∷ as-packet (take size packet) ∷ []
 
 abbrev pub handedLeft : Left → List Handed
 handedLeft (took n answer reply packet) = handedAs answer reply packet
@@ -60,14 +59,24 @@ unfoldable pub allHanded : List Left → List Handed
 allHanded [] = []
 allHanded (left ∷ more) = handedLeft left ++ allHanded more
 
--- the packets among them
-abbrev pub withPacket : Option (List ℕ) → List (List ℕ) → List (List ℕ)
-withPacket none packets = packets
-withPacket (some packet) packets = packet ∷ packets
+-- the strings of one sort among them
+unfoldable pub among : (Handed → List (List ℕ)) → List Handed → List (List ℕ)
+among sort [] = []
+among sort (handed ∷ more) = sort handed ++ among sort more
 
-unfoldable pub packetsHanded : List Handed → List (List ℕ)
-packetsHanded [] = []
-packetsHanded (handed ∷ more) = withPacket (handed .packet) (packetsHanded more)
+abbrev pub replyIn : Handed → List (List ℕ)
+replyIn (as-reply bytes) = bytes ∷ []
+replyIn (as-packet bytes) = []
+
+abbrev pub packetIn : Handed → List (List ℕ)
+packetIn (as-reply bytes) = []
+packetIn (as-packet bytes) = bytes ∷ []
+
+abbrev pub repliesHanded : List Handed → List (List ℕ)
+repliesHanded handed = among replyIn handed
+
+abbrev pub packetsHanded : List Handed → List (List ℕ)
+packetsHanded handed = among packetIn handed
 
 -- the answers that do not depend on where a piece was cut: all but "nothing", and refusal 7, after which nothing was taken
 abbrev pub answersAs : Answer → List Answer

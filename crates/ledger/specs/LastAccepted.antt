@@ -13,8 +13,8 @@ use Rattle.ledger.specs.BoardEvents.{BoardEvent, tick, packet}
 -- the value of an update of the name, if that is what the board rules make of a packet
 abbrev pub valueFor : List ℕ → Verdict → Option ℤ
 valueFor name (reading.refused n) = none
-valueFor name reading.endMark = none
-valueFor name (reading.update other value) = cond (sameBytes name other) (some value) none
+valueFor name (reading.endMark id) = none
+valueFor name (reading.update id other value) = cond (sameBytes name other) (some value) none
 
 -- the value of the update of the name that a board of the names accepted, if it accepted one
 abbrev pub acceptedFor : List (List ℕ) → List ℕ → BoardEvent → Option ℤ

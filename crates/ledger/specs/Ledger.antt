@@ -26,12 +26,29 @@ pub record Entry : Type 0 where
   pub name : List ℕ
   pub last : Option Update
 
--- the run (sent bytes since the last flag), the last sequence, the counts, and the entries
-pub record Ledger : Type 0 where
+-- what it holds of the line: the run (sent bytes since the last flag), the last sequence, and the counts
+pub record Line : Type 0 where
   pub run : Option (List ℕ)
   pub sequence : Option ℕ
   pub counts : Counts
+
+-- what it holds of the hives: an entry for each watched name
+pub record Hives : Type 0 where
   pub entries : List Entry
+
+pub record Ledger : Type 0 where
+  pub line : Line
+  pub hives : Hives
+
+-- each part, and an entry's last update, is set in one place
+abbrev pub withLine : Ledger → Line → Ledger
+withLine l line = record { line = line; hives = l .hives }
+
+abbrev pub withEntries : Ledger → List Entry → Ledger
+withEntries l entries = record { line = l .line; hives = record { entries = entries } }
+
+abbrev pub withLast : Entry → Option Update → Entry
+withLast entry last = record { name = entry .name; last = last }
 
 -- at first the counts are 0 and the rest is none
 abbrev pub noCounts : Counts
@@ -41,7 +58,11 @@ abbrev pub unheard : List ℕ → Entry
 unheard name = record { name = name; last = none }
 
 abbrev pub start : List (List ℕ) → Ledger
-start names = record { run = none; sequence = none; counts = noCounts; entries = map unheard names }
+start names =
+    record {
+      line = record { run = none; sequence = none; counts = noCounts };
+      hives = record { entries = map unheard names };
+    }
 
 abbrev pub nameOf : Entry → List ℕ
 nameOf entry = entry .name
@@ -78,7 +99,7 @@ unfoldable pub updated : List ℕ → ℤ → List Entry → List Entry
 updated name value [] = []
 updated name value (entry ∷ entries) =
     cond (sameBytes (entry .name) name)
-    (record { name = entry .name; last = some (record { value = value; ticks = 0 }) } ∷ entries)
+    (withLast entry (some (record { value = value; ticks = 0 })) ∷ entries)
     (entry ∷ updated name value entries)
 
 -- a tick is one more on each name's ticks
@@ -87,7 +108,7 @@ older none = none
 older (some update) = some (record { value = update .value; ticks = suc (update .ticks) })
 
 abbrev pub olderEntry : Entry → Entry
-olderEntry entry = record { name = entry .name; last = older (entry .last) }
+olderEntry entry = withLast entry (older (entry .last))
 
 -- what a row shows
 pub data Row : Type 0 where

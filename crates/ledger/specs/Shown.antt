@@ -43,14 +43,14 @@ abbrev pub asEntry : Entry → shown.Entry
 asEntry entry = record { name = entry .name; state = asState (rowOf (entry .last)) }
 
 -- the row of an update is its name's place in the watch list (an update is always of a watched name, so none does not come)
-abbrev pub asUpdated : Option ℕ → board-answer.Answer
-asUpdated (some place) = board-answer.the-variants.Updated place
-asUpdated none = board-answer.the-variants.EndMark
+abbrev pub asUpdated : ℕ → Option ℕ → board-answer.Answer
+asUpdated id (some place) = board-answer.the-variants.Updated place id
+asUpdated id none = board-answer.the-variants.EndMark id
 
 abbrev pub asReading : List (List ℕ) → Verdict → board-answer.Answer
 asReading names (reading.refused n) = board-answer.the-variants.Refused n
-asReading names reading.endMark = board-answer.the-variants.EndMark
-asReading names (reading.update name value) = asUpdated (placeOf name names)
+asReading names (reading.endMark id) = board-answer.the-variants.EndMark id
+asReading names (reading.update id name value) = asUpdated id (placeOf name names)
 
 abbrev pub asAnswer : List (List ℕ) → answers.Answer → display-answer.Answer
 asAnswer names answers.nothing = display-answer.the-variants.Nothing

@@ -6,7 +6,7 @@ use mathlib.Core.List.{List, [], _∷_, _++_}
 use mathlib.Core.Option.{Option, none, some}
 use lib.Dec.{leb, eqb}
 use lib.ListN.{length, take, drop}
-pub use Rattle.packet.specs.ItemTypes.{eofKind}
+use Rattle.packet.specs.ItemTypes.{eofKind}
 
 -- 01, Items and packets: an item is a type byte, a length byte N and N value bytes
 pub record Item : Type 0 where

@@ -39,7 +39,7 @@ row-names [] zero h = refl
 row-names [] (suc k) h = ap (λ (l : List (List ℕ)). [] ∷ l) (row-names [] k h)
 row-names (e ∷ es) k h = ap₂ (λ (n : List ℕ) (l : List (List ℕ)). n ∷ l) (first-named e es h) (row-names es k (others-named e es h))
 
-pub showing-names : (es : List Entry) → Named es → rowNames (boardShowing es) ≡ map entryName es ++ replicate (rowCount - length es) []
+pub showing-names : (es : List Entry) → Named es → rowNames (boardShowing rowCount es) ≡ map entryName es ++ replicate (rowCount - length es) []
 showing-names es h = row-names es (rowCount - length es) h
 
 -- a fresh board
@@ -48,7 +48,7 @@ fresh-rows [] zero = refl
 fresh-rows [] (suc k) = ap (λ (l : List Row). freshRow [] ∷ l) (fresh-rows [] k)
 fresh-rows (name ∷ names) k = ap (λ (l : List Row). freshRow name ∷ l) (fresh-rows names k)
 
-pub fresh-showing : (names : List (List ℕ)) → boardOf names ≡ boardShowing (map freshEntry names)
+pub fresh-showing : (names : List (List ℕ)) → boardOf rowCount names ≡ boardShowing rowCount (map freshEntry names)
 fresh-showing names = rw (length-map names freshEntry) (ap withRows (fresh-rows names (rowCount - length names)))
 
 -- a tick
@@ -57,7 +57,7 @@ tick-rows [] zero = refl
 tick-rows [] (suc k) = ap (λ (l : List Row). freshRow [] ∷ l) (tick-rows [] k)
 tick-rows (e ∷ es) k = ap (λ (l : List Row). rowShowing (tickEntry e) ∷ l) (tick-rows es k)
 
-pub tick-showing : (es : List Entry) → tickBoard (boardShowing es) ≡ boardShowing (map tickEntry es)
+pub tick-showing : (es : List Entry) → tickBoard (boardShowing rowCount es) ≡ boardShowing rowCount (map tickEntry es)
 tick-showing es = rw (length-map es tickEntry) (ap withRows (tick-rows es (rowCount - length es)))
 
 -- names are counted upwards
@@ -114,7 +114,7 @@ module _ (byte : ℕ) (bytes : List ℕ) (value : ℤ) where
       cases false rest = ap suc rest
 
 pub update-showing : (es : List Entry) (name : List ℕ) (place : ℕ) (value : ℤ) → Named es → 0 < length name
-    → placeOf name (rowNames (boardShowing es)) ≡ some place → updateBoard place value (boardShowing es) ≡ boardShowing (updateEntries name value es)
+    → placeOf name (rowNames (boardShowing rowCount es)) ≡ some place → updateBoard place value (boardShowing rowCount es) ≡ boardShowing rowCount (updateEntries name value es)
 update-showing es [] place value h some-bytes e = absurd (omega arith)
 update-showing es (byte ∷ bytes) place value h some-bytes e =
     let from : place ≡ 0 + place = omega arith in

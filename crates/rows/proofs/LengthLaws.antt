@@ -1,4 +1,4 @@
--- A board has its sixteen rows: owning an array says how long it is.
+-- A board has all its rows: owning an array says how long it is.
 use mathlib.Core.Path.{_≡_}
 use mathlib.Core.List.{List}
 use lib.ListN.{length, length-map}

@@ -6,7 +6,7 @@ use mathlib.Core.List.{List, [], _∷_, _++_, map}
 use lib.IntN.{ℤ}
 use lib.ListN.{length, replicate}
 use Rattle.slices.specs.Same.{sameBytes}
-use Rattle.rows.specs.Rows.{rowCount, tickState, withState, freshRow}
+use Rattle.rows.specs.Rows.{tickState, withState, freshRow}
 use Rattle.rows.specs.declared.Board.{Board}
 use Rattle.rows.specs.declared.Row.{Row}
 use Rattle.rows.specs.declared.State.{State}
@@ -23,9 +23,9 @@ entryName entry = entry .name
 abbrev pub rowShowing : Entry → Row
 rowShowing entry = withState (entry .state) (freshRow (entry .name))
 
--- 01, The board: sixteen rows, the list's names first and in its order; the rows behind them are unused
-abbrev pub boardShowing : List Entry → Board
-boardShowing entries = record { rows = map rowShowing entries ++ replicate (rowCount - length entries) (freshRow []) }
+-- 01, The board: the list's names first and in its order; the rows behind them, up to so many in all, are unused
+abbrev pub boardShowing : ℕ → List Entry → Board
+boardShowing count entries = record { rows = map rowShowing entries ++ replicate (count - length entries) (freshRow []) }
 
 -- 01, The board: a row is never until its first update
 abbrev pub freshEntry : List ℕ → Entry

@@ -78,9 +78,9 @@ putRow place row board = record { rows = changeAt (λ (old : Row). row) place (b
 abbrev pub updateBoard : ℕ → ℤ → Board → Board
 updateBoard place value board = record { rows = changeAt (updateRow value) place (board .rows) }
 
--- 01, The board: the list's names first and in its order; the rows behind them are unused
-abbrev pub boardOf : List (List ℕ) → Board
-boardOf names = record { rows = map freshRow (names ++ replicate (rowCount - length names) []) }
+-- 01, The board: the list's names first and in its order; the rows behind them, up to so many in all, are unused
+abbrev pub boardOf : ℕ → List (List ℕ) → Board
+boardOf count names = record { rows = map freshRow (names ++ replicate (count - length names) []) }
 
 -- how the code answers a place
 abbrev pub asPlace : Option ℕ → Place

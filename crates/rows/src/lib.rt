@@ -3,7 +3,7 @@ ghost use mathlib.Core.Path.{_≡_};
 ghost use mathlib.Core.List.{[]};
 ghost use Rattle.slices.specs.Same.{sameBytes};
 ghost use Rattle.rows.specs.Names.{placeOf};
-ghost use Rattle.rows.specs.Rows.{rowName, rowNames, tickState, tickRow, tickBoard, withState, freshRow, boardOf, updateRow, updateBoard, putRow, asPlace};
+ghost use Rattle.rows.specs.Rows.{rowCount, rowName, rowNames, tickState, tickRow, tickBoard, withState, freshRow, boardOf, updateRow, updateBoard, putRow, asPlace};
 
 // How many rows the board has.
 pub const ROWS: usize = 16;
@@ -172,7 +172,7 @@ pub fn fresh_row(name: &[u8]) -> Row
 
 // The board of an empty watch list.
 pub fn fresh() -> Board
-    ensures { λ r. ⌜ r ≡ boardOf [] ⌝ }
+    ensures { λ r. ⌜ r ≡ boardOf rowCount [] ⌝ }
 {
     let unused = fresh_row(b"");
     let rows = [unused; ROWS];

@@ -6,10 +6,14 @@ use native.Mathlib.Omega.{arith}
 use lib.ListN.{length}
 use lib.Seq.{length-take-le}
 use Rattle.link.specs.Receiving.{Call, receiveOf}
+use Rattle.link.specs.declared.receiver.Answer as link-answer
 use Rattle.link.specs.declared.receiver.Received as link-received
-use Rattle.display.specs.Display.{receivePiece}
+use Rattle.display.specs.Display.{keepBoard, received, resultOf, outcomeOf, receivePiece, DisplaysAs}
+use Rattle.display.specs.declared.Answer.{Answer}
+use Rattle.display.specs.declared.Received.{Received}
 use Rattle.display.proofs.LengthLaws.{whole-link}
-use Rattle.display.proofs.DisplayLaws.{Handed, receive-handed, kept, handed-up, packet-part}
+use Rattle.display.proofs.HandedLaws.{Handed, receive-handed, packet-part}
+use Rattle.display.proofs.DisplayLaws.{kept, handed-up}
 use borrow.Author.Needs.{needs}
 use Rattle.display.proofs.receive.Statement.{statement}
 use Rattle.display.proofs.receive.Tie as tie
@@ -20,8 +24,12 @@ receive-requires c κs = search needs
 enum-known-answer : tie.Need-enum-known-answer
 enum-known-answer c = search needs
 
+-- where the display has been taken apart, and where the function began
+abbrev apart : tie.After-receive → tie.After-before2
+apart c = c .before .before .before .before
+
 abbrev start : tie.After-receive → tie.Start
-start c = c .before .before .before .before .before .before .before .before
+start c = apart c .before .before .before .before
 
 abbrev call : tie.After-receive → Call
 call c =
@@ -32,8 +40,24 @@ call c =
 answered : (c : tie.After-receive) → call c .answer ≡ c .receive .result .answer
 answered c = sym (ap (λ (r : link-received.Received). r .answer) (c .receive .ensures .answers))
 
+-- the link's answer is matched on right behind the call
+abbrev at-match : tie.After-slice-known4 → tie.After-receive
+at-match c = c .before .before .before .before
+
+-- an answer without a new packet is passed on with the board as it was
+passed : (c : tie.After-slice-known4) (answer : link-answer.Answer) (said : Answer) (result : Received)
+    → at-match c .receive .result .answer ≡ answer
+    → resultOf answer (start (at-match c) .args .display .board) (call (at-match c))
+    ≡ keepBoard (received (call (at-match c))) (start (at-match c) .args .display .board) said
+    → result ≡ keepBoard (at-match c .receive .result) (start (at-match c) .args .display .board) said
+    → DisplaysAs (outcomeOf (start (at-match c) .args .display .board) (call (at-match c))) (start (at-match c) .args .reply .now)
+    (start (at-match c) .args .packet .now) result (at-match c .receive .last .1 .1 .0) (at-match c .receive .last .1 .1 .1 .0)
+passed c answer said result told same is =
+    let at = at-match c in
+    kept (start at .args .display .board) (call at) _ _ _ _ _ _ (at .receive .ensures) answer said (answered at ∙ told) same is
+
 abbrev at-receive : tie.After-answer → tie.After-receive
-at-receive c = c .before .before .before .before .before .before
+at-receive c = at-match (c .before .before)
 
 handed-at : (c : tie.After-answer)
     → Handed (call (at-receive c) .packet) (c .answer .given .0 .1 .0) (length (start (at-receive c) .args .packet .now))
@@ -46,14 +70,15 @@ handed-at c =
 slice-reshare-prefix-read : tie.Need-slice-reshare-prefix-read
 slice-reshare-prefix-read c =
     let handed = handed-at (c .before) in
-    let kept = c .before .before .before .before .before .before .before .receive .kept .1 .1 .1 .0 in
+    let kept = at-receive (c .before) .receive .kept .1 .1 .1 .0 in
     omega (arith, handed .size, handed .fits, kept)
 
 slice-aggregate-read : tie.Need-slice-aggregate-read
 slice-aggregate-read c =
     let handed = handed-at (c .before .before) in
-    let kept = c .before .before .before .before .before .before .before .before .receive .kept .1 .1 .1 .0 in
-    let fits : c .before .before .answer .given .0 .1 .0 ≤ length (c .before .before .before .before .before .before .before .before .receive .last .1 .1 .1 .0) = omega (arith, handed .size, handed .fits, kept) in
+    let at = at-receive (c .before .before) in
+    let kept = at .receive .kept .1 .1 .1 .0 in
+    let fits : c .before .before .answer .given .0 .1 .0 ≤ length (at .receive .last .1 .1 .1 .0) = omega (arith, handed .size, handed .fits, kept) in
     sym (length-take-le _ _ fits)
 
 read-requires : tie.Need-read-requires
@@ -110,8 +135,8 @@ same-length-4 c = search needs
 returns-2 : tie.Need-returns-2
 unfolding receivePiece
 returns-2 c =
-    let at = c .before .before .before .before .before .before .before in
-    kept (start at .args .display .board) (call at) _ _ _ _ _ _ (at .receive .ensures) _ _ (answered at ∙ c .before .enum-told .given .1) refl (c .keep .ensures)
+    let told = c .before in
+    passed (told .before .before) _ _ _ (told .enum-told .given .1) refl (c .keep .ensures)
 
 same-length-5 : tie.Need-same-length-5
 same-length-5 c = search needs
@@ -122,8 +147,8 @@ same-length-6 c = search needs
 returns-3 : tie.Need-returns-3
 unfolding receivePiece
 returns-3 c =
-    let at = c .before .before .before .before .before .before .before .before in
-    kept (start at .args .display .board) (call at) _ _ _ _ _ _ (at .receive .ensures) _ _ (answered at ∙ c .before .before .answer2 .given .1) refl (c .keep2 .ensures)
+    let told = c .before .before in
+    passed (told .before .before) _ _ _ (told .answer2 .given .1) refl (c .keep2 .ensures)
 
 same-length-7 : tie.Need-same-length-7
 same-length-7 c = search needs
@@ -134,8 +159,8 @@ same-length-8 c = search needs
 returns-4 : tie.Need-returns-4
 unfolding receivePiece
 returns-4 c =
-    let at = c .before .before .before .before .before .before .before .before in
-    kept (start at .args .display .board) (call at) _ _ _ _ _ _ (at .receive .ensures) _ _ (answered at ∙ c .before .before .answer3 .given .1) refl (c .keep3 .ensures)
+    let told = c .before .before in
+    passed (told .before .before) _ _ _ (told .answer3 .given .1) refl (c .keep3 .ensures)
 
 same-length-9 : tie.Need-same-length-9
 same-length-9 c = search needs
@@ -146,8 +171,8 @@ same-length-10 c = search needs
 returns-5 : tie.Need-returns-5
 unfolding receivePiece
 returns-5 c =
-    let at = c .before .before .before .before .before .before .before .before in
-    kept (start at .args .display .board) (call at) _ _ _ _ _ _ (at .receive .ensures) _ _ (answered at ∙ c .before .before .answer4 .given .1) refl (c .keep4 .ensures)
+    let told = c .before .before in
+    passed (told .before .before) _ _ _ (told .answer4 .given .1) refl (c .keep4 .ensures)
 
 pub receive-spec : {M : Type 1} → statement M
 receive-spec =

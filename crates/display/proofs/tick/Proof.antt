@@ -1,5 +1,7 @@
 -- `display::tick` meets its contract: the board that was lent is ticked, the link is kept.
 use borrow.Author.Needs.{needs}
+use mathlib.Core.Path.{ap}
+use Rattle.rows.specs.declared.Board.{Board}
 use Rattle.display.proofs.tick.Statement.{statement}
 use Rattle.display.proofs.tick.Tie as tie
 
@@ -7,7 +9,7 @@ lent-tick-requires : tie.Need-lent-tick-requires
 lent-tick-requires c κs = search needs
 
 returns : tie.Need-returns
-returns c = rw (c .lent-tick .ensures)
+returns c = ap (λ (board : Board). record { link = c .before .before .before .args .display .link; board = board }) (c .lent-tick .ensures)
 
 pub tick-spec : {M : Type 1} → statement M
 tick-spec = tie.close (tie.spec lent-tick-requires returns)

@@ -1,4 +1,4 @@
--- `rows::fresh` meets its contract: sixteen copies of the unused row are the board of no names.
+-- `rows::fresh` meets its contract: so many copies of the unused row as there are rows are the board of no names.
 use borrow.Author.Needs.{needs}
 use Rattle.rows.proofs.fresh.Statement.{statement}
 use Rattle.rows.proofs.fresh.Tie as tie

@@ -2,7 +2,8 @@
 use borrow.Author.Needs.{needs}
 use borrow.Author.Tests.{ne-eqb, le-leb, lt-leb, eq-eqb}
 use mathlib.Core.Path.{ap}
-use Prim.Native.Nat.{_≤_, _<_}
+use mathlib.Core.List.{List}
+use Prim.Native.Nat.{ℕ, _≤_, _<_}
 use native.Mathlib.Omega.{arith}
 use lib.ListN.{length, drop, getD, length-drop}
 use Rattle.slices.specs.HighFirst.{pairOf}
@@ -37,17 +38,26 @@ cast-size c = search needs
 sub-if3 : tie.Need-sub-if3
 sub-if3 c = search needs
 
+-- where the tag has been read, and the list there
+abbrev tagged : tie.After-pair → tie.Else2
+tagged c = c .before .before .before
+
+abbrev list-of : tie.Else2 → List ℕ
+list-of c = c .before .before .before .before .args .rest .now
+
 returns-3 : tie.Need-returns-3
 returns-3 c =
-    let rest = c .before .before .before .before .before .before .before .before .args .rest .now in
+    let tag = tagged (c .before) in
+    let rest = list-of tag in
     let cut : length (drop 3 rest) < pairOf (getD rest 1 0) (getD rest 2 0) = rw (← c .before .pair .ensures) (simp length-drop (c .if3 .taken)) in
-    rw (field-at rest (omega arith), eq-eqb (getD rest 0 0) 1 (c .before .before .before .before .if2 .left), lt-leb (pairOf (getD rest 1 0) (getD rest 2 0)) (length (drop 3 rest)) cut)
+    rw (field-at rest (omega arith), eq-eqb (getD rest 0 0) 1 (tag .if2 .left), lt-leb (pairOf (getD rest 1 0) (getD rest 2 0)) (length (drop 3 rest)) cut)
 
 returns-4 : tie.Need-returns-4
 returns-4 c =
-    let rest = c .before .before .before .before .before .before .before .before .args .rest .now in
+    let tag = tagged (c .before) in
+    let rest = list-of tag in
     let whole : pairOf (getD rest 1 0) (getD rest 2 0) ≤ length (drop 3 rest) = rw (← c .before .pair .ensures) (simp length-drop (c .if3 .left)) in
-    rw (field-at rest (omega arith), le-leb (pairOf (getD rest 1 0) (getD rest 2 0)) (length (drop 3 rest)) whole, eq-eqb (getD rest 0 0) 1 (c .before .before .before .before .if2 .left))
+    rw (field-at rest (omega arith), le-leb (pairOf (getD rest 1 0) (getD rest 2 0)) (length (drop 3 rest)) whole, eq-eqb (getD rest 0 0) 1 (tag .if2 .left))
     (ap Name (c .before .pair .ensures))
 
 pub read-field-spec : {M : Type 1} → statement M

@@ -18,8 +18,8 @@ valid : (c : tie.Else1) → validName (c .before .before .before .args .name .no
 valid c = sym (c .before .valid-name .ensures) ∙ not-false (c .before .valid-name .result) (c .if1 .left)
 
 -- the board has its rows
-sixteen : (c : tie.Else1) → length (c .before .before .before .args .board .rows) ≡ rowCount
-sixteen c = let start = c .before .before .before in board-rows (start .args .board) _ (start .good .0)
+all-rows : (c : tie.Else1) → length (c .before .before .before .args .board .rows) ≡ rowCount
+all-rows c = let start = c .before .before .before in board-rows (start .args .board) _ (start .good .0)
 
 valid-name-requires : tie.Need-valid-name-requires
 valid-name-requires c κs = search needs
@@ -73,7 +73,7 @@ returns-3 c =
     let found = looked .before .before .before .before in
     let args = found .before .before .before .before .args in
     let full = place-nowhere (placeOf [] (rowNames (args .board))) (sym (looked .find2 .ensures) ∙ c .before .enum-told3 .given .1) in
-    c .refused3 .ensures ∙ sym (watch-full (args .board) (args .name .now) (valid (found .before)) (sixteen (found .before)) full)
+    c .refused3 .ensures ∙ sym (watch-full (args .board) (args .name .now) (valid (found .before)) (all-rows (found .before)) full)
 
 fresh-row-requires : tie.Need-fresh-row-requires
 fresh-row-requires c κs = search needs
@@ -89,7 +89,7 @@ returns-4 c =
     let args = found .before .before .before .before .args in
     let new = place-nowhere (placeOf (args .name .now) (rowNames (args .board))) (sym (found .find .ensures) ∙ looked .before .before .enum-told2 .given .1) in
     let place = place-row (placeOf [] (rowNames (args .board))) _ (sym (looked .find2 .ensures) ∙ known .unused .given .1) in
-    rw (c .put-row .ensures, c .before .fresh-row .ensures) (sym (watch-first (args .board) (args .name .now) (valid (found .before)) (sixteen (found .before)) new place))
+    rw (c .put-row .ensures, c .before .fresh-row .ensures) (sym (watch-first (args .board) (args .name .now) (valid (found .before)) (all-rows (found .before)) new place))
 
 pub watch-spec : {M : Type 1} → statement M
 watch-spec =

@@ -1,15 +1,16 @@
 -- `board::list::watch_list` meets its contract. The invariant says what is still to read: the board is that of the names read
 -- so far, and with the rest of the list behind them they give what the whole list gives.
 use mathlib.Core.Path.{_≡_, refl, sym, ap, _∙_}
-use mathlib.Core.List.{[]}
+use mathlib.Core.List.{List, []}
 use mathlib.Core.Option.{some}
-use Prim.Native.Nat.{_+_, _-_, _≤_}
+use Prim.Native.Nat.{ℕ, _+_, _-_, _≤_}
 use native.Mathlib.Omega.{arith}
 use borrow.Author.Needs.{needs}
 use lib.ListN.{length, length-take, take, drop, length-drop}
 use Rattle.board.specs.declared.list.Watched.{Watched}
-use Rattle.board.specs.WatchList.{fieldOf, watchBoard}
-use Rattle.board.proofs.WatchLaws.{good-none}
+use Rattle.board.specs.WatchList.{watchBoard}
+use Rattle.board.specs.ListSteps.{fieldOf}
+use Rattle.board.proofs.NameLaws.{good-none}
 use Rattle.board.proofs.FieldLaws.{Reached, nameAt, field-name, field-none, field-size, reached-bad, reached-refused, reached-next, reached-end}
 use Rattle.slices.proofs.PartLaws.{part-rest}
 use Rattle.board.proofs.list.watch_list.Statement.{statement}
@@ -21,34 +22,43 @@ Inv-loop fields board₀ at₀ board at = Reached fields board at
 abbrev μ-loop : tie.MeasureT-loop
 μ-loop fields board₀ at₀ board at = length fields - at
 
--- the rest, from the present place on
-rest-is : (c : tie.After-rest Inv-loop μ-loop) → take (length (c .before .before .before .before .before .args .fields .now) - c .before .before .loop .at) (drop (c .before .before .loop .at) (c .before .before .before .before .before .args .fields .now)) ≡ drop (c .before .before .loop .at) (c .before .before .before .before .before .args .fields .now)
-rest-is c = part-rest (c .before .before .before .before .before .args .fields .now) (c .before .before .loop .at)
+-- the list, where the loop stands
+abbrev list-at : tie.At-loop Inv-loop μ-loop → List ℕ
+list-at c = c .before .before .before .args .fields .now
+
+-- where the loop stood when a field was read, and the field whose name is watched
+abbrev loop-of : tie.After-size Inv-loop μ-loop → tie.At-loop Inv-loop μ-loop
+loop-of c = c .before .before .before .before .before
+
+abbrev size-of : tie.After-watch Inv-loop μ-loop → tie.After-size Inv-loop μ-loop
+size-of c = c .before .before .before
 
 -- the field that was read
-field : (c : tie.After-size Inv-loop μ-loop) → fieldOf (drop (c .before .before .before .before .before .loop .at) (c .before .before .before .before .before .before .before .before .args .fields .now)) ≡ some (c .size .given .0 .0)
+field : (c : tie.After-size Inv-loop μ-loop) → fieldOf (drop (loop-of c .loop .at) (list-at (loop-of c))) ≡ some (c .size .given .0 .0)
 field c =
-    let read = c .before .before in
-    let found = field-name (fieldOf (take (length (read .before .before .before .before .before .before .args .fields .now) - read .before .before .before .loop .at) (drop (read .before .before .before .loop .at) (read .before .before .before .before .before .before .args .fields .now)))) (c .size .given .0 .0) (sym (read .read-field .ensures) ∙ c .size .given .1) in
-    rw (rest-is (read .before)) at found
+    let at = loop-of c .loop .at in
+    let fields = list-at (loop-of c) in
+    let told = sym (c .before .before .read-field .ensures) ∙ c .size .given .1 in
+    let found = field-name (fieldOf (take (length fields - at) (drop at fields))) (c .size .given .0 .0) told in
+    rw (part-rest fields at) at found
 
 -- it lies within the list
-room : (c : tie.After-size Inv-loop μ-loop) → c .before .before .before .before .before .loop .at + (c .size .given .0 .0 + 3) ≤ length (c .before .before .before .before .before .before .before .before .args .fields .now)
+room : (c : tie.After-size Inv-loop μ-loop) → loop-of c .loop .at + (c .size .given .0 .0 + 3) ≤ length (list-at (loop-of c))
 room c =
-    let turn = c .before .before .before .before in
-    let fields = turn .before .before .before .before .args .fields .now in
-    let h : c .size .given .0 .0 + 3 ≤ length (drop (turn .before .loop .at) fields) = field-size (drop (turn .before .loop .at) fields) (c .size .given .0 .0) (field c) in
-    omega (arith, length-drop (turn .before .loop .at) fields)
+    let at = loop-of c .loop .at in
+    let fields = list-at (loop-of c) in
+    let h : c .size .given .0 .0 + 3 ≤ length (drop at fields) = field-size (drop at fields) (c .size .given .0 .0) (field c) in
+    omega (arith, length-drop at fields)
 
 -- the name in it was asked to be watched
-watched : (c : tie.After-watch Inv-loop μ-loop) → c .watch .result ≡ watchBoard (c .before .before .before .before .before .before .before .before .loop .board) (nameAt (c .before .before .before .before .before .before .before .before .before .before .before .args .fields .now) (c .before .before .before .before .before .before .before .before .loop .at) (c .before .before .before .size .given .0 .0))
+watched : (c : tie.After-watch Inv-loop μ-loop)
+    → c .watch .result
+    ≡ watchBoard (loop-of (size-of c) .loop .board) (nameAt (list-at (loop-of (size-of c))) (loop-of (size-of c) .loop .at) (size-of c .size .given .0 .0))
 watched c =
-    let size = c .before .before .before in
-    let turn = size .before .before .before .before in
-    let fields = turn .before .before .before .before .args .fields .now in
-    let loop = turn .before .loop in
-    let sized : (size .size .given .0 .0 + 3) - 3 ≡ size .size .given .0 .0 = omega arith in
-    c .watch .ensures ∙ rw (sized, part-rest fields (loop .at))
+    let size = size-of c .size .given .0 .0 in
+    let loop = loop-of (size-of c) in
+    let sized : (size + 3) - 3 ≡ size = omega arith in
+    c .watch .ensures ∙ rw (sized, part-rest (list-at loop) (loop .loop .at))
 
 fresh-requires : tie.Need-fresh-requires Inv-loop μ-loop
 fresh-requires c κs = tt
@@ -84,10 +94,10 @@ returns : tie.Need-returns Inv-loop μ-loop
 returns c =
     let read = c .before .before .before .before in
     let turn = read .before .before in
-    let fields = turn .before .before .before .before .args .fields .now in
+    let fields = list-at (turn .before) in
     let loop = turn .before .loop in
     let bad = field-none (fieldOf (take (length fields - loop .at) (drop (loop .at) fields))) (sym (read .read-field .ensures) ∙ c .before .before .enum-told .given .1) in
-    let refused = reached-bad fields (loop .board) (loop .at) (loop .inv) (turn .loop-test .taken) (rw (rest-is (read .before)) at bad) in
+    let refused = reached-bad fields (loop .board) (loop .at) (loop .inv) (turn .loop-test .taken) (rw (part-rest fields (loop .at)) at bad) in
     rw (c .refused .ensures, c .before .fresh2 .ensures, refused)
 
 add-end : tie.Need-add-end Inv-loop μ-loop
@@ -117,10 +127,9 @@ refused-requires-2 c κs = tt
 returns-2 : tie.Need-returns-2 Inv-loop μ-loop
 returns-2 c =
     let called = c .before .before .before .before in
-    let size = called .before .before .before in
-    let turn = size .before .before .before .before in
-    let fields = turn .before .before .before .before .args .fields .now in
-    let loop = turn .before .loop in
+    let size = size-of called in
+    let fields = list-at (loop-of size) in
+    let loop = loop-of size .loop in
     let told = ap (λ (w : Watched). w .answer) (sym (watched called)) ∙ c .before .before .enum-told2 .given .1 in
     let refused = reached-refused fields (loop .board) (loop .at) (loop .inv) (size .size .given .0 .0) _ (field size) told in
     rw (c .refused2 .ensures, c .before .fresh3 .ensures, refused)
@@ -129,25 +138,24 @@ enum-told-3 : tie.Need-enum-told-3 Inv-loop μ-loop
 enum-told-3 c = search needs
 
 add-at : tie.Need-add-at Inv-loop μ-loop
-add-at c = let h = room (c .before .before .before .before .before .before) in omega arith
+add-at c = let h = room (size-of (c .before .before .before)) in omega arith
 
 loop-less : tie.Need-loop-less Inv-loop μ-loop
-loop-less c = let h = room (c .before .before .before .before .before .before) in omega arith
+loop-less c = let h = room (size-of (c .before .before .before)) in omega arith
 
 loop-again : tie.Need-loop-again Inv-loop μ-loop
 loop-again c =
     let called = c .before .before .before in
-    let size = called .before .before .before in
-    let turn = size .before .before .before .before in
-    let fields = turn .before .before .before .before .args .fields .now in
-    let loop = turn .before .loop in
+    let size = size-of called in
+    let fields = list-at (loop-of size) in
+    let loop = loop-of size .loop in
     let told = ap (λ (w : Watched). w .answer) (sym (watched called)) ∙ c .before .enum-told3 .given .1 in
     rw (watched called) (reached-next fields (loop .board) (loop .at) (loop .inv) (size .size .given .0 .0) (field size) told)
 
 returns-3 : tie.Need-returns-3 Inv-loop μ-loop
 returns-3 c =
     let loop = c .before .loop in
-    let fields = c .before .before .before .before .args .fields .now in
+    let fields = list-at (c .before) in
     reached-end fields (loop .board) (loop .at) (loop .inv) (c .loop-test .left)
 
 pub watch-list-spec : {M : Type 1} → statement M

@@ -2,7 +2,6 @@
 use borrow.Author.Needs.{needs}
 use mathlib.Core.Path.{sym, _∙_}
 use Rattle.packet.specs.Packet.{packetOf, packetItems}
-use Rattle.board.specs.Reading.{asTask}
 use Rattle.board.proofs.ReadingLaws.{task-refused, task-update, task-other}
 use Rattle.board.proofs.reading.judge.Statement.{statement}
 use Rattle.board.proofs.reading.judge.Tie as tie
@@ -20,7 +19,6 @@ judge-items-requires : tie.Need-judge-items-requires
 judge-items-requires c κs = search needs
 
 returns : tie.Need-returns
-unfolding asTask
 returns c =
     let j = packetOf (c .before .before .before .before .before .args .packet .now) in
     let told = c .before .number .given in
@@ -36,7 +34,6 @@ returns-2 c =
     rw (task-update j (told .0 .0) (told .0 .1 .0) (sym (read .read-packet .ensures) ∙ told .1) (c .before .if1 .taken)) (c .judge-items .ensures)
 
 returns-3 : tie.Need-returns-3
-unfolding asTask
 returns-3 c =
     let known = c .before in
     let read = known .before .before .before in

@@ -1,9 +1,10 @@
--- `board::reading::read` meets its contract: the task says which case of the verdict holds.
+-- `board::reading::read` meets its contract: the verdict is the one that the task comes to.
 use borrow.Author.Needs.{needs}
 use mathlib.Core.Path.{sym, _∙_}
 use Rattle.packet.specs.Packet.{packetOf, packetItems}
-use Rattle.board.specs.Reading.{taskOf, verdictOf, ifWatched, applied, readingOf, readBoard, readUpdate}
-use Rattle.board.proofs.ReadingLaws.{was-reject, was-finish, was-apply}
+use Rattle.board.specs.Reading.{ifWatched, applied, readingOf, readBoard}
+use Rattle.board.specs.ReadingSteps.{readUpdate}
+use Rattle.board.proofs.ReadingLaws.{by-task}
 use Rattle.board.proofs.reading.read.Statement.{statement}
 use Rattle.board.proofs.reading.read.Tie as tie
 
@@ -16,37 +17,37 @@ enum-known-number c = search needs
 refused-requires : tie.Need-refused-requires
 refused-requires c κs = search needs
 
-enum-told : tie.Need-enum-told
-enum-told c = search needs
+enum-known-id : tie.Need-enum-known-id
+enum-known-id c = search needs
 
-enum-told-2 : tie.Need-enum-told-2
-enum-told-2 c = search needs
+enum-known-id-2 : tie.Need-enum-known-id-2
+enum-known-id-2 c = search needs
 
 read-update-requires : tie.Need-read-update-requires
 read-update-requires c κs = search needs
 
 returns : tie.Need-returns
-unfolding readBoard readingOf verdictOf ifWatched applied
+unfolding readBoard readingOf ifWatched applied
 returns c =
     let known = c .before in
     let judged = known .before .before .before in
     let j = packetOf (judged .before .before .args .packet .now) in
-    let told = known .before .number .given in
-    rw (c .refused .ensures, was-reject (taskOf j) (told .0 .0) (sym (judged .judge .ensures) ∙ told .1))
+    rw (c .refused .ensures, by-task j, sym (judged .judge .ensures) ∙ known .before .number .given .1)
 
 returns-2 : tie.Need-returns-2
-unfolding readBoard readingOf verdictOf ifWatched applied
+unfolding readBoard readingOf ifWatched applied
 returns-2 c =
-    let judged = c .before .before in
+    let judged = c .before .before .before in
     let j = packetOf (judged .before .before .args .packet .now) in
-    rw (was-finish (taskOf j) (sym (judged .judge .ensures) ∙ c .enum-told .given .1))
+    rw (by-task j, sym (judged .judge .ensures) ∙ c .before .id .given .1)
 
 returns-3 : tie.Need-returns-3
 unfolding readBoard readingOf readUpdate packetItems
 returns-3 c =
-    let judged = c .before .before .before in
+    let known = c .before in
+    let judged = known .before .before .before in
     let j = packetOf (judged .before .before .args .packet .now) in
-    rw (was-apply j (sym (judged .judge .ensures) ∙ c .before .enum-told2 .given .1)) (c .read-update .ensures)
+    rw (by-task j, sym (judged .judge .ensures) ∙ known .before .id2 .given .1) (c .read-update .ensures)
 
 pub read-spec : {M : Type 1} → statement M
 read-spec =
@@ -55,8 +56,8 @@ read-spec =
     judge-requires
     enum-known-number
     refused-requires
-    enum-told
-    enum-told-2
+    enum-known-id
+    enum-known-id-2
     read-update-requires
     returns
     returns-2

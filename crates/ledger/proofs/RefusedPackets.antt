@@ -1,15 +1,11 @@
--- DEMAND 1 of the display, the other refusals: a call with a short buffer does not look at the piece and leaves all as it was; a packet that
--- the board refuses leaves the board, and is counted as unread.
+-- DEMAND 1 of the display, a packet that the board refuses: the board is as it was, since what it reads is refused before a row is changed,
+-- and the packet is counted as new and as unread.
 use mathlib.Core.Path.{_≡_, refl, ap, _∙_}
-use mathlib.Core.Bool.{Bool, true, false, cond, _||_}
+use mathlib.Core.Bool.{Bool, true, false}
 use mathlib.Core.List.{List, [], _∷_, map}
 use mathlib.Core.Option.{Option, some, none}
-use mathlib.Core.Logic.{_⊎_, inl, inr}
-use Prim.Native.Nat.{ℕ, _<_}
-use lib.Dec.{ltb}
-use lib.ListN.{length, take}
-use borrow.Author.Tests.{ltb-true, ltb-false}
-use Rattle.refusals.specs.Numbers.{shortOutput}
+use Prim.Native.Nat.{ℕ}
+use lib.ListN.{take}
 use Rattle.slices.proofs.Impossible.{impossible}
 use Rattle.slices.specs.Put.{putAt}
 use Rattle.rows.specs.Names.{placeOf}
@@ -20,70 +16,48 @@ use Rattle.board.specs.Reading.{Verdict, readingOf, updated, applied, readBoard
 use Rattle.board.specs.declared.reading.Answer as board-answer
 use Rattle.board.specs.declared.reading.Answer.the-variants as board-says
 use Rattle.link.specs.Counts.{countOf}
-use Rattle.link.specs.Receiving.{receiveOf, shortCall}
 use Rattle.link.specs.declared.counts.Event.the-variants as event
-use Rattle.link.proofs.ReceivingLaws.{short-reply, short-packet}
-use Rattle.display.specs.Display.{outcomeOf, receivePiece, DisplaysAs}
-use Rattle.display.specs.declared.Answer.the-variants.{Refused, New}
+use Rattle.display.specs.declared.Answer.the-variants.{New}
 use Rattle.display.specs.declared.Display.{Display}
-use Rattle.display.specs.declared.Received.{Received}
 use Rattle.ledger.specs.Ledger.{Ledger, start}
 use Rattle.ledger.specs.Frames as frames
 use Rattle.ledger.specs.Frames.{Frame, Taken, taken, frameOf}
 use Rattle.ledger.specs.Answers.{WatchList, namesIn, Call, piece}
-use Rattle.ledger.specs.Calls.{answerTo, repeated, closed, effectOf, withRun, pieceStep, shortStep, step, after}
+use Rattle.ledger.specs.Calls.{answerTo, repeated, closed, effectOf, withRun, Step, step, after}
 use Rattle.ledger.specs.Shown.{asAnswer, Left, took, asLeft}
 use Rattle.ledger.specs.History.{Event, byte, history}
 use Rattle.ledger.specs.ClosedFrames.{Closes}
-use Rattle.ledger.proofs.Chain.{Begins, Chain, done, receives, received}
-use Rattle.ledger.proofs.EveryList.{chain-agrees, Agreeing, agreeing}
+use Rattle.ledger.proofs.Chain.{Begins, Chain}
+use Rattle.ledger.proofs.EveryList.{Agreeing, agreeing, next-call}
 use Rattle.ledger.proofs.HistoryLaws.{closedFrames}
-use Rattle.ledger.proofs.SameHistory.{next-given}
 use Rattle.ledger.proofs.ClosedCalls.{closes-here}
-use Rattle.ledger.proofs.AtOnce.{dropped, read-new}
-
-call-short : (d : Display) (bytes reply packet : List ℕ) → (length reply < 9) ⊎ (length packet < 383)
-    → receiveOf (d .link) bytes (length reply) (length packet) ≡ shortCall (d .link)
-call-short d bytes reply packet (inl few) = short-reply (d .link) bytes (length reply) (length packet) few
-call-short d bytes reply packet (inr few) = by-reply (ltb (length reply) 9) refl
-  where
-    by-reply : (t : Bool) → ltb (length reply) 9 ≡ t → receiveOf (d .link) bytes (length reply) (length packet) ≡ shortCall (d .link)
-    by-reply true e = short-reply (d .link) bytes (length reply) (length packet) (ltb-true (length reply) 9 e)
-    by-reply false e = short-packet (d .link) bytes (length reply) (length packet) (ltb-false (length reply) 9 e) few
-
-short-done : (d : Display) (reply packet : List ℕ) (result : Received) (reply₁ packet₁ : List ℕ)
-    → DisplaysAs (outcomeOf (d .board) (shortCall (d .link))) reply packet result reply₁ packet₁
-    → (took (result .taken) (result .answer) reply₁ packet₁ ≡ took 0 (Refused shortOutput) reply packet) × (result .display ≡ d)
-short-done d reply packet result reply₁ packet₁ does = rw (does .answers, does .replied, does .handed-out) (refl, refl)
-
--- THEOREM. Whatever the display, a call that is lent a reply buffer of under 9 bytes or a packet buffer of under 383 is refused with 7, takes
--- nothing, and leaves the display and both buffers as they were.
-pub short-buffer : (d d₁ : Display) (bytes reply packet : List ℕ) (left : Left) → Chain d (piece bytes reply packet ∷ []) (left ∷ []) d₁
-    → (length reply < 9) ⊎ (length packet < 383) → (left ≡ took 0 (Refused shortOutput) reply packet) × (d₁ ≡ d)
-unfolding receivePiece
-short-buffer d d₁ bytes reply packet left (receives {reply₁ = reply₁} {packet₁ = packet₁} {result = result} r done) short =
-    short-done d reply packet result reply₁ packet₁ (rw (call-short d bytes reply packet short) at (received r))
+use Rattle.ledger.proofs.DataCalls.{dropped, read-new}
+use Rattle.ledger.proofs.RoomLaws.{by-room}
 
 refused-stays : (board : Board) (v : Verdict) (k : ℕ) → applied board v .answer ≡ board-says.Refused k → applied board v .board ≡ board
 unfolding applied updated
 refused-stays board (reading.refused m) k e = refl
-refused-stays board reading.endMark k e = refl
-refused-stays board (reading.update name value) k e = by-place (placeOf name (rowNames board)) e
+refused-stays board (reading.endMark id) k e = refl
+refused-stays board (reading.update id name value) k e = by-place (placeOf name (rowNames board)) e
   where
-    by-place : (o : Option ℕ) → updated board value o .answer ≡ board-says.Refused k → updated board value o .board ≡ board
+    by-place : (o : Option ℕ) → updated board id value o .answer ≡ board-says.Refused k → updated board id value o .board ≡ board
     by-place (some place) e = impossible cc
     by-place none e = refl
+
+read-unread : (board : Board) (payload : List ℕ) (k : ℕ) → readBoard board payload .answer ≡ board-says.Refused k → readBoard board payload .board ≡ board
+unfolding readBoard
+read-unread board payload k e = refused-stays board (readingOf (watched board) payload) k e
 
 -- a call that answered a new frame closed one
 record NewFound (l : Ledger) (bytes : List ℕ) (count : ℕ) : Type 0 where
   sequence : ℕ
   payload : List ℕ
-  counted : count ≡ taken (l .run) bytes 0 .count
-  closes : closedFrames (taken (l .run) bytes 0 .frame) ≡ frames.good sequence payload ∷ []
+  counted : count ≡ taken (l .line .run) bytes 0 .count
+  closes : closedFrames (taken (l .line .run) bytes 0 .frame) ≡ frames.good sequence payload ∷ []
 
 module _ (names : List (List ℕ)) (l : Ledger) (bytes reply packet : List ℕ) (count m size : ℕ) (answer : board-answer.Answer) (reply₁ packet₁ : List ℕ) where
   abbrev t : Taken
-  t = taken (l .run) bytes 0
+  t = taken (l .line .run) bytes 0
 
   frame-found : (run : List ℕ) → t .frame ≡ some run → count ≡ t .count → (f : Frame) → frameOf run ≡ f
       → New m size answer ≡ asAnswer names (closed (withRun l (t .run)) f .answer) → NewFound l bytes count
@@ -93,22 +67,18 @@ module _ (names : List (List ℕ)) (l : Ledger) (bytes reply packet : List ℕ) 
       record { sequence = sequence; payload = payload; counted = counted; closes = ap closedFrames e ∙ ap (λ (f : Frame). f ∷ []) is }
 
   new-found : took count (New m size answer) reply₁ packet₁ ≡ asLeft names (step l (piece bytes reply packet) .given) → NewFound l bytes count
-  unfolding step
-  new-found = by-room (ltb (length reply) 9 || ltb (length packet) 383)
+  new-found =
+      by-room (λ (s : Step). took count (New m size answer) reply₁ packet₁ ≡ asLeft names (s .given) → NewFound l bytes count) l bytes reply packet
+      (λ short said. impossible cc)
+      (λ reply-room packet-room said.
+      let counted : count ≡ t .count = cc in
+      let answered : New m size answer ≡ asAnswer names (effectOf (withRun l (t .run)) (t .frame) .answer) = cc in
+      by-frame (t .frame) refl counted answered)
     where
       by-frame : (frame : Option (List ℕ)) → t .frame ≡ frame → count ≡ t .count
           → New m size answer ≡ asAnswer names (effectOf (withRun l (t .run)) frame .answer) → NewFound l bytes count
       by-frame none e counted said = impossible cc
       by-frame (some run) e counted said = frame-found run e counted (frameOf run) refl said
-
-      by-room : (short : Bool)
-          → took count (New m size answer) reply₁ packet₁ ≡ asLeft names (cond short (shortStep l reply packet) (pieceStep l t reply packet) .given)
-          → NewFound l bytes count
-      by-room true said = impossible cc
-      by-room false said =
-          let counted : count ≡ t .count = cc in
-          let answered : New m size answer ≡ asAnswer names (effectOf (withRun l (t .run)) (t .frame) .answer) = cc in
-          by-frame (t .frame) refl counted answered
 
 -- a packet that the board refused: its frame is closed and new, acknowledgement and payload are handed out, the board is as it was, and it
 -- is counted as new and as unread
@@ -121,10 +91,6 @@ pub record Unread (events further : List Event) (reply packet : List ℕ) (befor
   pub board-kept : behind .board ≡ before .board
   pub counts : behind .link .counts ≡ countOf event.Unread (countOf event.New (before .link .counts))
 
-read-unread : (board : Board) (payload : List ℕ) (k : ℕ) → readBoard board payload .answer ≡ board-says.Refused k → readBoard board payload .board ≡ board
-unfolding readBoard
-read-unread board payload k e = refused-stays board (readingOf (watched board) payload) k e
-
 -- THEOREM. After every list of calls: where the next call is answered by a new packet that the board refused, the board is as it was.
 pub refused-packet : (names : List (List ℕ)) (w : WatchList) → namesIn w ≡ some names → (d : Display) → Begins w d
     → (cs : List Call) (left : List Left) (end : Display) → Chain d cs left end
@@ -132,7 +98,7 @@ pub refused-packet : (names : List (List ℕ)) (w : WatchList) → namesIn w ≡
     → Chain end (piece bytes reply packet ∷ []) (took count (New m size (board-says.Refused k)) reply₁ packet₁ ∷ []) end₁
     → Unread (history cs left) (map byte (take count bytes)) reply packet end reply₁ packet₁ end₁
 refused-packet names w listed d begins cs left end chain bytes reply packet count m size k reply₁ packet₁ end₁ next =
-    by-last (repeated (l .sequence) (found .sequence)) refl
+    by-last (repeated (l .line .sequence) (found .sequence)) refl
   where
     l : Ledger
     l = after (start names) cs
@@ -146,12 +112,12 @@ refused-packet names w listed d begins cs left end chain bytes reply packet coun
     found : NewFound l bytes count
     found =
         new-found names l bytes reply packet count m size (board-says.Refused k) reply₁ packet₁
-        (next-given names l (piece bytes reply packet) more (chain-agrees names (a .fit) l next (a .all .agrees) .gives))
+        (next-call a next .gives)
 
     closes : Closes (history cs left) (map byte (take count bytes)) (frames.good (found .sequence) (found .payload))
     closes = closes-here names cs left end a bytes count (frames.good (found .sequence) (found .payload)) (found .counted) (found .closes)
 
-    by-last : (t : Bool) → repeated (l .sequence) (found .sequence) ≡ t → Unread (history cs left) (map byte (take count bytes)) reply packet end reply₁ packet₁ end₁
+    by-last : (t : Bool) → repeated (l .line .sequence) (found .sequence) ≡ t → Unread (history cs left) (map byte (take count bytes)) reply packet end reply₁ packet₁ end₁
     by-last true e =
         let said = dropped names cs left end a bytes reply packet more end₁ next (found .sequence) (found .payload) closes e .answers in
         impossible cc

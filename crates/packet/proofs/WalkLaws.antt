@@ -12,7 +12,8 @@ use borrow.Author.Tests.{le-leb, leb-true}
 use Rattle.slices.proofs.Impossible.{impossible}
 use Rattle.slices.proofs.PartLaws.{part-rest}
 use Rattle.slices.proofs.TestLaws.{Both, both}
-use Rattle.packet.specs.Items.{Item, inFront, eofKind, emptyIfEof, itemsOf, countOf}
+use Rattle.packet.specs.ItemTypes.{eofKind}
+use Rattle.packet.specs.Items.{Item, inFront, emptyIfEof, itemsOf, countOf}
 use Rattle.packet.specs.Answers.{placed, past, headIn, findIn, behindIn}
 use Rattle.packet.specs.Walk.{Countable, beginsWithItem, withItem, tallyOf}
 use Rattle.packet.specs.declared.items.Found.the-variants.{At, Nothing}

@@ -5,7 +5,8 @@ use mathlib.Core.List.{List}
 use mathlib.Core.Option.{Option, none, some}
 use lib.Dec.{leb, eqb}
 use lib.ListN.{length, getD, drop}
-use Rattle.packet.specs.Items.{Item, eofKind, countOf, itemsOf}
+use Rattle.packet.specs.ItemTypes.{eofKind}
+use Rattle.packet.specs.Items.{Item, countOf, itemsOf}
 use Rattle.packet.specs.Packet.{isData}
 use Rattle.packet.specs.Answers.{headIn, findIn, behindIn}
 use Rattle.packet.specs.declared.items.Found.{Found}

@@ -10,13 +10,12 @@ use native.Mathlib.Omega.{arith}
 use lib.Dec.{ltb}
 use lib.IntN.{ℤ}
 use lib.ListN.{length, replicate}
-use borrow.Author.Tests.{le-ltb, ltb-false}
+use borrow.Author.Tests.{ltb-true, ltb-false}
 use Rattle.slices.specs.Same.{sameBytes}
 use Rattle.rows.specs.Entries as shown
 use Rattle.rows.specs.Entries.{entryName, tickEntry, updateEntries}
 use Rattle.rows.specs.Names.{placeFrom}
 use Rattle.rows.specs.Rows.{tickState}
-use Rattle.rows.specs.declared.State.the-variants.{Current, Silent}
 use Rattle.slices.proofs.SameLaws.{same-lengths}
 use Rattle.ledger.specs.Ledger.{Update, Entry, nameOf, updated, older, olderEntry, current, silent, rowOf, withLast}
 use Rattle.ledger.specs.Shown.{asState, asEntry}
@@ -36,17 +35,17 @@ entries-updated name value (e ∷ es) = cases (sameBytes (e .name) name) (entrie
 -- a tick
 state-older : (last : Option Update) → tickState (asState (rowOf last)) ≡ asState (rowOf (older last))
 state-older none = refl
-state-older (some u) = cases (ltb (u .ticks) 30) refl
+state-older (some u) = cases (ltb (u .ticks) 30) (ltb (suc (u .ticks)) 30) refl refl
   where
-    shown-as : (t : Bool) (n : ℕ) → cond t (Current (u .value) n) Silent ≡ asState (cond t (current (u .value) n) silent)
-    shown-as true n = refl
-    shown-as false n = refl
-
-    cases : (t : Bool) → ltb (u .ticks) 30 ≡ t → tickState (asState (rowOf (some u))) ≡ asState (rowOf (older (some u)))
-    cases true e = rw (e, add-one) (shown-as (ltb (suc (u .ticks)) 30) (suc (u .ticks)))
-    cases false e =
-        let old : 30 ≤ suc (u .ticks) = omega (arith, ltb-false (u .ticks) 30 e) in
-        rw (e, le-ltb (suc (u .ticks)) 30 old)
+    cases : (t v : Bool) → ltb (u .ticks) 30 ≡ t → ltb (suc (u .ticks)) 30 ≡ v
+        → tickState (asState (cond t (current (u .value) (u .ticks)) silent)) ≡ asState (cond v (current (u .value) (suc (u .ticks))) silent)
+    cases true true e f = rw (add-one, f)
+    cases true false e f = rw (add-one, f)
+    cases false true e f =
+        let late : 30 ≤ u .ticks = ltb-false (u .ticks) 30 e in
+        let early : suc (u .ticks) < 30 = ltb-true (suc (u .ticks)) 30 f in
+        absurd (omega arith)
+    cases false false e f = refl
 
 pub entries-older : (es : List Entry) → map tickEntry (map asEntry es) ≡ map asEntry (map olderEntry es)
 entries-older [] = refl

@@ -19,7 +19,7 @@
 
 ARCHIVE ?= target/staticlib/libhost.a
 REPLAY ?= target/bin/replay
-ASH ?= target/bin/ash_cases
+CASES ?= target/bin/run_cases
 OUT ?= target/out
 RUSTC ?= rustc
 SIZE ?= size
@@ -56,7 +56,7 @@ target/staticlib/libhost.a: crates.txt $(shell find crates -type f)
 	rt staticlib host
 	touch $@
 
-$(addprefix target/bin/,replay ash_cases receive_bench): target/bin/%: \
+$(addprefix target/bin/,replay run_cases receive_bench): target/bin/%: \
 		crates.txt $(shell find crates -type f)
 	rt check $*
 	touch $@
@@ -125,10 +125,10 @@ ASH_TEST := tests/ash/main.rs $(wildcard tests/ash/*.rs) $(addprefix tests/,refe
 $(OUT)/ash_test: $(ASH_TEST) | $(OUT)
 	$(RUSTC) $(RUSTFLAGS) -o $@ $<
 
-$(OUT)/ash_reference: $(ASH_TEST) crates/ash_cases/stdin crates/ash_cases/stdout | $(OUT)
+$(OUT)/ash_reference: $(ASH_TEST) crates/run_cases/stdin crates/run_cases/stdout | $(OUT)
 	$(RUSTC) $(RUSTFLAGS) --test -o $@ $<
 
-test: $(addprefix $(OUT)/,$(TESTS)) $(OUT)/display $(REPLAY) $(ASH)
+test: $(addprefix $(OUT)/,$(TESTS)) $(OUT)/display $(REPLAY) $(CASES)
 	@set -e; for test in $(C_TESTS); do $(OUT)/$$test; done
 	@$(OUT)/display examples/captures/line.capture >$(OUT)/line.from-file
 	@diff -u examples/captures/line.expected $(OUT)/line.from-file
@@ -145,7 +145,7 @@ test: $(addprefix $(OUT)/,$(TESTS)) $(OUT)/display $(REPLAY) $(ASH)
 	@$(OUT)/replay_reference --quiet
 	@$(OUT)/replay_test $(REPLAY) 20000 1
 	@$(OUT)/ash_reference --quiet
-	@$(OUT)/ash_test $(ASH)
+	@$(OUT)/ash_test $(CASES)
 
 soak: $(OUT)/replay_test $(REPLAY)
 	$(OUT)/replay_test $(REPLAY) 1000000 $$(date +%s)
@@ -199,8 +199,8 @@ fuzz: $(FUZZ)/archive $(FUZZ)/replay
 
 # The tests under valgrind
 
-valgrind: $(addprefix $(OUT)/,$(C_TESTS) serial differential replay_test display) $(REPLAY) $(ASH)
-	@tests/valgrind/run.sh $(VALGRIND) $(OUT) $(REPLAY) $(ASH) $(C_TESTS)
+valgrind: $(addprefix $(OUT)/,$(C_TESTS) serial differential replay_test display) $(REPLAY) $(CASES)
+	@tests/valgrind/run.sh $(VALGRIND) $(OUT) $(REPLAY) $(CASES) $(C_TESTS)
 
 # Mutants: small wrong programs, each to be refused
 

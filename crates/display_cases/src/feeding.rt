@@ -1,5 +1,6 @@
 // Streams fed to a display, one call after the other.
 use crate::calls::show_answer;
+use cases::line;
 use display::Answer;
 use display::Display;
 ghost use Rattle.display.specs.Taking.{Takes};
@@ -16,7 +17,7 @@ struct Call {
 }
 
 // A fresh display that watches h1 and h2.
-pub(crate) fn hive() -> Display {
+pub fn hive() -> Display {
     let watched = board::watch_list(b"\x01\x00\x02h1\x01\x00\x02h2");
     display::start(watched.board)
 }
@@ -27,10 +28,13 @@ pub(crate) fn feed(display: Display, stream: &[u8]) -> Display {
     passed.display
 }
 
-// At most 388 zeros, one more than the longest content.
-pub(crate) fn feed_zeros(display: Display, count: u64) -> Display {
-    let zeros = [0u8; 388];
-    if 388 < count {
+// At most so many zeros: one more than the longest content.
+const ZEROS_MAX: u64 = 388;
+
+pub(crate) fn feed_zeros(display: Display, line: &[u8], count: u64) -> Display {
+    let zeros = [0u8; ZEROS_MAX as usize];
+    if ZEROS_MAX < count {
+        line::not_run(line, b"too many zeros");
         return display;
     }
     let end = count as usize;

@@ -49,7 +49,7 @@ fn show_reading(reading: board::Answer) {
 }
 
 // The counts, then the rows that have a name.
-pub(crate) fn show_display(display: Display) -> Display {
+pub fn show_display(display: Display) -> Display {
     let link = display.link;
     reports::counts(link.counts);
     reports::rows(display.board);

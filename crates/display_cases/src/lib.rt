@@ -9,6 +9,7 @@ mod calls;
 mod cuts;
 mod feeding;
 
+pub use calls::show_display;
 use cases::line;
 use cases::print;
 use display::Display;

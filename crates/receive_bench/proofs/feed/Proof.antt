@@ -36,7 +36,7 @@ part-feed-piece-end : tie.Need-part-feed-piece-end Inv-loop μ-loop
 part-feed-piece-end c = omega arith
 
 feed-piece-requires : tie.Need-feed-piece-requires Inv-loop μ-loop
-feed-piece-requires c κs = tt
+feed-piece-requires c κs = (omega arith, omega arith)
 
 loop-less : tie.Need-loop-less Inv-loop μ-loop
 loop-less c = omega arith

@@ -21,8 +21,8 @@ pub fn run(line: &[u8], bytes: &[u8]) {
         b'v' => show_value(line, bytes),
         b'w' => show_list(line, bytes),
         b'r' => show_reading(line, bytes),
-        b't' => show_board(line, ticked(updated(), ticks(bytes))),
-        b'u' => show_board(line, case_6(ticked(updated(), ticks(bytes)))),
+        b't' => show_board(line, ticked(updated(), line::number(bytes))),
+        b'u' => show_board(line, case_6(ticked(updated(), line::number(bytes)))),
         _ => line::not_run(line, b"no such key"),
     }
 }
@@ -49,19 +49,14 @@ fn show_number(number: i64) {
     print::text(b"\n");
 }
 
-fn ticked(board: Board, ticks: u32) -> Board {
+fn ticked(board: Board, ticks: u64) -> Board {
     let mut next = board;
-    let mut i: u32 = 0;
+    let mut i: u64 = 0;
     while i < ticks {
         next = rows::lent_tick(next);
         i += 1;
     }
     next
-}
-
-// At most 255 ticks.
-fn ticks(bytes: &[u8]) -> u32 {
-    (line::number(bytes) % 256) as u32
 }
 
 fn show_board(line: &[u8], board: Board) {

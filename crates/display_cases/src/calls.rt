@@ -2,13 +2,15 @@
 use cases::print;
 use display::Answer;
 use display::Display;
+use frame::PAYLOAD_MAX;
+use link::receiver::REPLY_ROOM;
 
 // Calls with a reply buffer, then with a packet buffer that is a byte too short.
 pub(crate) fn short_buffers(display: Display, piece: &[u8]) -> Display {
-    let mut reply = [0u8; 9];
-    let mut packet = [0u8; 383];
-    let mut short_reply = [0u8; 8];
-    let mut short_packet = [0u8; 382];
+    let mut reply = [0u8; REPLY_ROOM];
+    let mut packet = [0u8; PAYLOAD_MAX];
+    let mut short_reply = [0u8; REPLY_ROOM - 1];
+    let mut short_packet = [0u8; PAYLOAD_MAX - 1];
     let next = call(display, piece, &mut short_reply, &mut packet);
     call(next, piece, &mut reply, &mut short_packet)
 }

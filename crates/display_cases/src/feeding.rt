@@ -3,6 +3,9 @@ use crate::calls::show_answer;
 use cases::line;
 use display::Answer;
 use display::Display;
+use frame::CONTENT_MAX;
+use frame::PAYLOAD_MAX;
+use link::receiver::REPLY_ROOM;
 ghost use Rattle.display.specs.Taking.{Takes};
 
 // A display, and a check over all that was handed out on the way to it.
@@ -29,7 +32,7 @@ pub(crate) fn feed(display: Display, stream: &[u8]) -> Display {
 }
 
 // At most so many zeros: one more than the longest content.
-const ZEROS_MAX: u64 = 388;
+const ZEROS_MAX: u64 = CONTENT_MAX as u64 + 1;
 
 pub(crate) fn feed_zeros(display: Display, line: &[u8], count: u64) -> Display {
     let zeros = [0u8; ZEROS_MAX as usize];
@@ -68,8 +71,8 @@ pub(crate) fn pass(before: Passed, stream: &[u8], shown: bool) -> Passed {
 fn take_piece(before: Passed, piece: &[u8], shown: bool) -> Call
     ensures { λ r. ⌜ Takes (now (piece .entry)) (r .taken) ⌝ }
 {
-    let mut reply = [0u8; 9];
-    let mut packet = [0u8; 383];
+    let mut reply = [0u8; REPLY_ROOM];
+    let mut packet = [0u8; PAYLOAD_MAX];
     let display = before.display;
     let received = display::receive(display, piece, &mut reply, &mut packet);
     let answer = received.answer;

@@ -10,7 +10,9 @@
 // is unread, and one byte between flags, which is refused by 3.
 use cases::line;
 use display::Display;
+use frame::PAYLOAD_MAX;
 use libc::STDIN_FILENO;
+use link::receiver::REPLY_ROOM;
 ghost use Prim.Native.Nat.{_≤_, min};
 ghost use lib.ListN.{length};
 
@@ -36,8 +38,8 @@ fn feed_input(input: &[u8]) {
 }
 
 fn feed_rounds(stream: &[u8], size: usize, rounds: usize) -> Display {
-    let mut reply = [0u8; 9];
-    let mut packet = [0u8; 383];
+    let mut reply = [0u8; REPLY_ROOM];
+    let mut packet = [0u8; PAYLOAD_MAX];
     let mut next = display_cases::hive();
     let mut i: usize = 0;
     while i < rounds {

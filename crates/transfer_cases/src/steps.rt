@@ -2,7 +2,6 @@
 use crate::report;
 use cases::line;
 use cases::print;
-use transfer::Outcome;
 use transfer::Transfer;
 
 // The longest lent buffer.

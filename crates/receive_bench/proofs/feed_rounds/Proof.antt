@@ -1,7 +1,7 @@
 -- `receive_bench::feed_rounds` ends: each turn leaves one round less.
 use native.Mathlib.Omega.{arith}
 use Prim.Native.Nat.{_-_, _≤_}
-use mathlib.Core.Path.{_≡_, _∙_}
+use mathlib.Core.Path.{_≡_}
 use borrow.Author.Needs.{needs}
 use lib.ListN.{length}
 use Rattle.receive_bench.proofs.feed_rounds.Statement.{statement}

@@ -4,7 +4,7 @@
 
 ARCHIVE ?= target/staticlib/libhost.a
 REPLAY ?= target/bin/replay
-ASH ?= target/bin/ash_cases
+CASES ?= target/bin/run_cases
 OUT ?= target/out
 RUSTC ?= rustc
 SIZE ?= size
@@ -56,7 +56,7 @@ target/staticlib/libhost.a: crates.txt $(shell find crates -type f)
 	rt staticlib host
 	touch $@
 
-$(addprefix target/bin/,replay ash_cases receive_bench): target/bin/%: \
+$(addprefix target/bin/,replay run_cases receive_bench): target/bin/%: \
 		crates.txt $(shell find crates -type f)
 	$(need_rt)
 	rt check $*
@@ -134,14 +134,14 @@ ASH_TEST := tests/ash/main.rs $(wildcard tests/ash/*.rs) $(RUST_SHARED)
 $(OUT)/ash_test: $(ASH_TEST) | $(OUT)
 	$(call rust)
 
-$(OUT)/ash_reference: $(ASH_TEST) crates/ash_cases/stdin crates/ash_cases/stdout | $(OUT)
+$(OUT)/ash_reference: $(ASH_TEST) crates/run_cases/stdin crates/run_cases/stdout | $(OUT)
 	$(call rust,--test)
 
 CAPTURE := examples/captures/line
 CASE_6 := examples/histories/case_6
 
 ## make test             run the host tests, and replay the histories of examples/ (rustc, python3)
-test: $(addprefix $(OUT)/,$(TESTS)) $(OUT)/display $(REPLAY) $(ASH)
+test: $(addprefix $(OUT)/,$(TESTS)) $(OUT)/display $(REPLAY) $(CASES)
 	$(call need,python3,Python (3.10 or later))
 	@set -e; for test in $(C_TESTS); do $(OUT)/$$test; done
 	@tests/example/run.sh $(OUT)/display $(CAPTURE).capture $(CAPTURE).expected
@@ -157,7 +157,7 @@ test: $(addprefix $(OUT)/,$(TESTS)) $(OUT)/display $(REPLAY) $(ASH)
 	@$(OUT)/replay_reference --quiet
 	@$(OUT)/replay_test $(REPLAY) 20000 1
 	@$(OUT)/ash_reference --quiet
-	@$(OUT)/ash_test $(ASH)
+	@$(OUT)/ash_test $(CASES)
 	@tests/mutants/written.py --apply-only
 	@tests/mutants/table.py --check
 
@@ -217,8 +217,8 @@ fuzz: $(FUZZ)/archive $(FUZZ)/replay
 # The tests under valgrind
 
 ## make valgrind         run the host tests under valgrind, some minutes (rustc, valgrind)
-valgrind: $(addprefix $(OUT)/,$(C_TESTS) serial differential replay_test display) $(REPLAY) $(ASH)
-	@tests/valgrind/run.sh $(VALGRIND) $(OUT) $(REPLAY) $(ASH) $(C_TESTS)
+valgrind: $(addprefix $(OUT)/,$(C_TESTS) serial differential replay_test display) $(REPLAY) $(CASES)
+	@tests/valgrind/run.sh $(VALGRIND) $(OUT) $(REPLAY) $(CASES) $(C_TESTS)
 
 # Mutants: small wrong programs, each to be refused
 

@@ -1,6 +1,6 @@
 /*
- * The receiver and the board in plain C, as a program with the arguments, input and output of the
- * crate receive_bench, so that both are timed in the same way. The state stands in one place and is
+ * The receiver and the board in plain C, as a program with the input and output of the crate
+ * receive_bench, so that both are timed in the same way. The state stands in one place and is
  * changed there; the board keeps values and no ages, and refusals 9 to 14 are one answer. Compiled
  * with CONTENT_CRC=table_crc it checks content by the table.
  */
@@ -19,6 +19,7 @@
 #define ROWS 16
 #define NAME_MAX_LENGTH 27
 #define STREAM_MAX 65536
+#define NUMBER_BYTES 4
 #define UPDATE 0x03
 #define NAME_ITEM 0x01
 #define INTEGER_ITEM 0x02
@@ -246,13 +247,22 @@ static void report(const struct receiver *receiver)
     }
 }
 
-int main(int argc, char **argv)
+static size_t number(const uint8_t bytes[NUMBER_BYTES])
+{
+    size_t number = 0;
+    for (size_t i = 0; i < NUMBER_BYTES; i++)
+        number = number << 8 | bytes[i];
+    return number;
+}
+
+int main(void)
 {
     static uint8_t stream[STREAM_MAX];
     static struct receiver receiver;
-    if (argc != 3)
+    uint8_t head[2 * NUMBER_BYTES];
+    if (fread(head, 1, sizeof head, stdin) != sizeof head)
         return EXIT_FAILURE;
-    size_t size = strtoul(argv[1], NULL, 10), rounds = strtoul(argv[2], NULL, 10);
+    size_t size = number(head), rounds = number(head + NUMBER_BYTES);
     size_t length = fread(stream, 1, sizeof stream, stdin);
     table_crc_start();
     receiver.last = -1;

@@ -1,6 +1,6 @@
 /*
  * Time of the receiver on streams in pieces of 1, 64 and 4,096 bytes, beside the same in C. All are
- * programs, named as arguments, the library first: they are given a stream and a number of rounds,
+ * programs, named as arguments, the library first: they are given a number of rounds and a stream,
  * and what counts is the processor time that the system says they took. They take turns. A speed is
  * that of the best turn; a ratio is the median over the turns.
  */
@@ -52,13 +52,10 @@ static FILE *empty_file(void)
     return file;
 }
 
-static void start_program(const char *path, size_t size, unsigned rounds, FILE *input, FILE *output)
+static void start_program(const char *path, FILE *input, FILE *output)
 {
-    char size_word[32], rounds_word[32];
-    snprintf(size_word, sizeof size_word, "%zu", size);
-    snprintf(rounds_word, sizeof rounds_word, "%u", rounds);
     if (dup2(fileno(input), STDIN_FILENO) >= 0 && dup2(fileno(output), STDOUT_FILENO) >= 0)
-        execl(path, path, size_word, rounds_word, (char *)NULL);
+        execl(path, path, (char *)NULL);
     _exit(EXIT_FAILURE);
 }
 
@@ -67,18 +64,31 @@ static double ns_of(struct timeval time)
     return (double)time.tv_sec * 1e9 + (double)time.tv_usec * 1e3;
 }
 
-/* Runs a program, its output going into a file, and answers its processor time. */
+/* A number in four bytes, high byte first. */
+static void put_number(FILE *file, size_t number)
+{
+    for (int shift = 24; shift >= 0; shift -= 8)
+        require(fputc((int)(number >> shift & 0xff), file) != EOF, "no room for a number");
+}
+
+/*
+ * Runs a program, its output going into a file, and answers its processor time. Before the stream
+ * stand the length of a piece and the number of rounds.
+ */
 static double run(const char *path, size_t size, unsigned rounds, FILE *input, FILE *output)
 {
     int status = 0;
     struct rusage usage;
+    rewind(input);
+    put_number(input, size);
+    put_number(input, rounds);
     rewind(input);
     rewind(output);
     fflush(NULL);
     pid_t child = fork();
     require(child >= 0, "no process");
     if (child == 0)
-        start_program(path, size, rounds, input, output);
+        start_program(path, input, output);
     require(wait4(child, &status, 0, &usage) == child, "no end");
     require(WIFEXITED(status) && WEXITSTATUS(status) == EXIT_SUCCESS, path);
     return ns_of(usage.ru_utime) + ns_of(usage.ru_stime);
@@ -151,6 +161,8 @@ static struct stream make_stream(const char *kind, const uint8_t *payload, size_
 {
     static uint8_t frame[ARZNAVIK_FRAME_MAX];
     struct stream stream = {kind, 0, empty_file()};
+    put_number(stream.bytes, 0);
+    put_number(stream.bytes, 0);
     for (unsigned i = 0;; i++) {
         uint64_t report = plain_frame_write(ARZNAVIK_TYPE_DATA, (uint8_t)(1 + i % 255), payload,
                                             payload_length, frame, sizeof frame);

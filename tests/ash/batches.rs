@@ -1,21 +1,28 @@
 //! Cases given to the program many at a time, and what it prints compared with the reference.
 
-use crate::cases::Case;
+use crate::cases::{Case, SUBJECT};
 use crate::child;
 use crate::classes::Class;
 use crate::tally::Tally;
 
-/// A batch is closed from so many bytes on: with one line more it stays under the 65,536 that the
+/// A batch is closed from so many bytes on: with one line more it stays under the 262,144 that the
 /// program reads.
 const BATCH_BYTES: usize = 60_000;
 
-#[derive(Default)]
 struct Batch {
     lines: String,
     wanted: String,
 }
 
 impl Batch {
+    fn new() -> Batch {
+        let lines = format!("{SUBJECT}\n");
+        Batch {
+            wanted: lines.clone(),
+            lines,
+        }
+    }
+
     /// Fails with the first line that is not the wanted one.
     fn compare(&self, program: &str) -> Result<(), String> {
         let printed =
@@ -38,7 +45,7 @@ impl Batch {
 /// Runs the program on all cases, and counts the kinds of answer that they wanted.
 pub fn run(program: &str, cases: impl Iterator<Item = Case>) -> Result<Tally<Class>, String> {
     let mut tally = Tally::new(Class::all());
-    let mut batch = Batch::default();
+    let mut batch = Batch::new();
     for (number, case) in cases.enumerate() {
         let label = number.to_string();
         let (wanted, class) = case.printed(&label);
@@ -47,7 +54,7 @@ pub fn run(program: &str, cases: impl Iterator<Item = Case>) -> Result<Tally<Cla
         tally.add(class);
         if batch.lines.len() >= BATCH_BYTES {
             batch.compare(program)?;
-            batch = Batch::default();
+            batch = Batch::new();
         }
     }
     batch.compare(program)?;

@@ -1,4 +1,5 @@
-//! Runs the program `ash_cases` on many cases, and compares what it prints with the reference.
+//! Runs the program `run_cases` on many cases of ASHv3 frames, and compares what it prints with the
+//! reference.
 //!
 //! Arguments: the program, then seeds; without them the run is always the same.
 

@@ -1,5 +1,5 @@
 //! The frame rules of ASHv3, from request C-11 and source document 002 (3.3, 3.8, 3.10 and 3.11),
-//! written for reading and not for speed. The comparison of tests/ash/ holds `ash_cases` to this.
+//! written for reading and not for speed. The comparison of tests/ash/ holds `run_cases` to this.
 
 use crate::frame::check;
 

@@ -1,13 +1,13 @@
 #!/usr/bin/env bash
 # The host tests under valgrind; each error that it reports is a failure.
 #
-#   run.sh VALGRIND FOLDER REPLAY ASH TEST...
+#   run.sh VALGRIND FOLDER REPLAY CASES TEST...
 set -euo pipefail
 
 valgrind=$1
 folder=$2
 replay=$3
-ash=$4
+cases=$4
 shift 4
 histories=100
 
@@ -31,7 +31,8 @@ done
 "${check[@]}" --trace-children=yes "$folder/serial" "$folder/display"
 tests/example/run.sh "$(checked display "$folder/display")" examples/captures/line.{capture,expected}
 "${check[@]}" "$folder/differential" 1
-"${check[@]}" "$ash" <crates/ash_cases/stdin | diff -u crates/ash_cases/stdout -
+ash() { awk '/^= /{on=($0=="= ash")} on' "crates/run_cases/$1"; }
+ash stdin | "${check[@]}" "$cases" | diff -u <(ash stdout) -
 echo "ash: the stored cases give their stored answers"
 
 replay_checked=$(checked replay "$replay")

@@ -23,8 +23,11 @@ pub(crate) fn show_reading(line: &[u8], packet: &[u8]) {
     let reading = board::read(rows::tick(updated()), packet);
     let answer = reading.answer;
     match answer {
-        Answer::Updated(row) => print::number(b": row ", row as u64),
-        Answer::EndMark => print::text(b": end mark"),
+        Answer::Updated { row, id } => {
+            print::number(b": row ", row as u64);
+            print::number(b" id ", id as u64);
+        }
+        Answer::EndMark { id } => print::number(b": end mark, id ", id as u64),
         Answer::Refused(number) => print::number(b": refused ", number as u64),
     }
     print::text(b"\n");

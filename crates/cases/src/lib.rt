@@ -1,5 +1,5 @@
-// Cases as lines of text. A program of cases reads them from standard input, runs the proved code on
-// each, and prints what it answers. This is such a line:
+// Cases as lines of text. The program `run_cases` reads them from standard input, runs the proved code
+// on each, and prints what it answers. This is such a line:
 //
 //     n two names: 01 00 02 'h '1 01 00 02 'h '2
 //

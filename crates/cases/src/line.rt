@@ -57,6 +57,15 @@ pub fn label(line: &[u8]) {
     print::text(&line[2..end]);
 }
 
+// Says that the case of a line is not run, and why. No contract can say what is written.
+pub fn not_run(line: &[u8], why: &[u8]) {
+    print::text(b"not run, ");
+    print::text(why);
+    print::text(b": ");
+    label(line);
+    print::text(b"\n");
+}
+
 // Puts the bytes of a line at the start of a lent buffer, and answers how many they are. Of bytes
 // that are more than the buffer the first ones are put.
 pub fn bytes(line: &[u8], out: &mut [u8]) -> usize

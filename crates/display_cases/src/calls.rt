@@ -2,13 +2,15 @@
 use cases::print;
 use display::Answer;
 use display::Display;
+use frame::PAYLOAD_MAX;
+use link::receiver::REPLY_ROOM;
 
 // Calls with a reply buffer, then with a packet buffer that is a byte too short.
 pub(crate) fn short_buffers(display: Display, piece: &[u8]) -> Display {
-    let mut reply = [0u8; 9];
-    let mut packet = [0u8; 383];
-    let mut short_reply = [0u8; 8];
-    let mut short_packet = [0u8; 382];
+    let mut reply = [0u8; REPLY_ROOM];
+    let mut packet = [0u8; PAYLOAD_MAX];
+    let mut short_reply = [0u8; REPLY_ROOM - 1];
+    let mut short_packet = [0u8; PAYLOAD_MAX - 1];
     let next = call(display, piece, &mut short_reply, &mut packet);
     call(next, piece, &mut reply, &mut short_packet)
 }
@@ -42,14 +44,17 @@ pub(crate) fn show_answer(taken: usize, answer: Answer, reply: &[u8], packet: &[
 
 fn show_reading(reading: board::Answer) {
     match reading {
-        board::Answer::Updated(row) => print::number(b" row ", row as u64),
-        board::Answer::EndMark => print::text(b" end mark"),
+        board::Answer::Updated { row, id } => {
+            print::number(b" row ", row as u64);
+            print::number(b" id ", id as u64);
+        }
+        board::Answer::EndMark { id } => print::number(b" end mark, id ", id as u64),
         board::Answer::Refused(number) => print::number(b" unread ", number as u64),
     }
 }
 
 // The counts, then the rows that have a name.
-pub(crate) fn show_display(display: Display) -> Display {
+pub fn show_display(display: Display) -> Display {
     let link = display.link;
     reports::counts(link.counts);
     reports::rows(display.board);

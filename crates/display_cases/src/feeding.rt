@@ -1,7 +1,11 @@
 // Streams fed to a display, one call after the other.
 use crate::calls::show_answer;
+use cases::line;
 use display::Answer;
 use display::Display;
+use frame::CONTENT_MAX;
+use frame::PAYLOAD_MAX;
+use link::receiver::REPLY_ROOM;
 ghost use Rattle.display.specs.Taking.{Takes};
 
 // A display, and a check over all that was handed out on the way to it.
@@ -16,7 +20,7 @@ struct Call {
 }
 
 // A fresh display that watches h1 and h2.
-pub(crate) fn hive() -> Display {
+pub fn hive() -> Display {
     let watched = board::watch_list(b"\x01\x00\x02h1\x01\x00\x02h2");
     display::start(watched.board)
 }
@@ -27,10 +31,13 @@ pub(crate) fn feed(display: Display, stream: &[u8]) -> Display {
     passed.display
 }
 
-// At most 388 zeros, one more than the longest content.
-pub(crate) fn feed_zeros(display: Display, count: u64) -> Display {
-    let zeros = [0u8; 388];
-    if 388 < count {
+// At most so many zeros: one more than the longest content.
+const ZEROS_MAX: u64 = CONTENT_MAX as u64 + 1;
+
+pub(crate) fn feed_zeros(display: Display, line: &[u8], count: u64) -> Display {
+    let zeros = [0u8; ZEROS_MAX as usize];
+    if ZEROS_MAX < count {
+        line::not_run(line, b"too many zeros");
         return display;
     }
     let end = count as usize;
@@ -64,8 +71,8 @@ pub(crate) fn pass(before: Passed, stream: &[u8], shown: bool) -> Passed {
 fn take_piece(before: Passed, piece: &[u8], shown: bool) -> Call
     ensures { λ r. ⌜ Takes (now (piece .entry)) (r .taken) ⌝ }
 {
-    let mut reply = [0u8; 9];
-    let mut packet = [0u8; 383];
+    let mut reply = [0u8; REPLY_ROOM];
+    let mut packet = [0u8; PAYLOAD_MAX];
     let display = before.display;
     let received = display::receive(display, piece, &mut reply, &mut packet);
     let answer = received.answer;

@@ -2,6 +2,7 @@
 -- then two lines of counts." The words are given as their ASCII bytes.
 use Prim.Native.Nat.{ℕ}
 use mathlib.Core.List.{List, [], _∷_, _++_}
+use Rattle.slices.specs.Each.{each}
 use Rattle.rows.specs.Rows.{rowName}
 use Rattle.rows.specs.declared.Row.{Row}
 use Rattle.rows.specs.declared.State.{State}
@@ -69,9 +70,8 @@ abbrev pub refusedWord : List ℕ
 refusedWord = 114 ∷ 101 ∷ 102 ∷ 117 ∷ 115 ∷ 101 ∷ 100 ∷ []
 
 -- a space before each number
-unfoldable pub spaced : List ℕ → List ℕ
-spaced [] = []
-spaced (number ∷ numbers) = labelled space number ++ spaced numbers
+abbrev pub spaced : List ℕ → List ℕ
+spaced numbers = each (labelled space) numbers
 
 -- `refused 0 0 0 0 0 0`
 abbrev pub refusedLine : List ℕ → List ℕ

@@ -1,9 +1,10 @@
 -- Numbers as text, in ASCII.
 use Prim.Native.Nat.{ℕ, zero, suc, _+_, _/_, _%_}
 use mathlib.Core.Bool.{cond}
-use mathlib.Core.List.{List, [], _∷_, _++_}
+use mathlib.Core.List.{List, [], _∷_}
 use lib.Dec.{ltb}
 use lib.IntN.{ℤ, pos, negsuc}
+use Rattle.slices.specs.Each.{each}
 
 -- the digits 0 to 9 are the bytes 48 to 57
 abbrev pub digit : ℕ → ℕ
@@ -32,6 +33,5 @@ hexDigit d = cond (ltb d 10) (48 + d) (87 + d)
 abbrev pub hexByte : ℕ → List ℕ
 hexByte byte = hexDigit (byte / 16) ∷ hexDigit (byte % 16) ∷ []
 
-unfoldable pub hexOf : List ℕ → List ℕ
-hexOf [] = []
-hexOf (byte ∷ bytes) = hexByte byte ++ hexOf bytes
+abbrev pub hexOf : List ℕ → List ℕ
+hexOf bytes = each hexByte bytes

@@ -1,9 +1,7 @@
 // Text appended to a lent buffer. What would fall past the buffer's end is dropped, and the place
 // behind the text is then that end.
 ghost use mathlib.Core.Path.{_≡_};
-ghost use mathlib.Core.List.{_∷_, []};
 ghost use Prim.Native.Nat.{_+_, _<_, min};
-ghost use lib.ListN.{length};
 ghost use Rattle.history.specs.Appending.{Appends};
 ghost use Rattle.history.specs.Numbers.{decimalOf, signedOf, hexDigit, hexByte};
 
@@ -11,6 +9,11 @@ ghost use Rattle.history.specs.Numbers.{decimalOf, signedOf, hexDigit, h
 const ZERO: u8 = 48;
 
 const TEN: u8 = 97 - 10;
+
+// Enough for a number of 64 bits in decimal.
+const DIGITS_MAX: usize = 20;
+
+const LAST_DIGIT: usize = DIGITS_MAX - 1;
 
 // Appends `text` from the place `at` on, and answers the place behind it.
 pub fn append(out: &mut [u8], at: usize, text: &[u8]) -> usize
@@ -35,8 +38,8 @@ fn behind(size: usize, at: usize, count: usize) -> usize
 pub fn decimal(out: &mut [u8], at: usize, number: u64) -> usize
     ensures { λ r. ⌜ Appends (decimalOf number) (now (out .entry)) at (now (out .exit)) r ⌝ }
 {
-    let mut digits = [0u8; 20];
-    let mut left: usize = 19;
+    let mut digits = [0u8; DIGITS_MAX];
+    let mut left: usize = LAST_DIGIT;
     let mut rest = number;
     while 10 <= rest {
         let last = rest % 10;

@@ -1,15 +1,22 @@
-// A request as it is written into buffers of 18, 8 and 3 bytes, and the whole of each buffer after it.
+// A request as it is written into three buffers, and the whole of each buffer after it.
 use cases::line;
 use cases::print;
 use packet::Offset;
 use packet::Written;
 
+// Room for each request that is a case, for some of them, and for none.
+const ROOMY: usize = 18;
+
+const TIGHT: usize = 8;
+
+const SHORT: usize = 3;
+
 pub(crate) fn show(line: &[u8], bytes: &[u8]) {
-    let mut roomy = [0xeeu8; 18];
+    let mut roomy = [0xeeu8; ROOMY];
     show_written(line, bytes, &mut roomy);
-    let mut tight = [0xddu8; 8];
+    let mut tight = [0xddu8; TIGHT];
     show_written(line, bytes, &mut tight);
-    let mut short = [0xccu8; 3];
+    let mut short = [0xccu8; SHORT];
     show_written(line, bytes, &mut short);
 }
 

@@ -1,51 +1,46 @@
-// Feeds a stream from standard input to a display, in pieces of the size that the first argument says
-// and as often as the second says, and prints the counts and the rows. `make bench-receive` times it on
-// long streams, and holds its output to that of a receiver in C.
+// Feeds a stream to a display, in pieces and over and over, and prints the counts and the rows. `make
+// bench-receive` times it on long streams, and holds its output to that of a receiver in C.
+//
+// On standard input stand the length of a piece and how often the stream is fed, each in four bytes,
+// high byte first, then the stream.
 //
 // The stored run is a short stream, three times in pieces of seven bytes, and its output is compared
 // with the file `stdout`. By document 01, The receiver, each time brings case 6 with sequence 01, an
 // update of h2 that is sent twice, an acknowledgement, an update of a name that is not watched, which
 // is unread, and one byte between flags, which is refused by 3.
+use cases::line;
 use display::Display;
+use frame::PAYLOAD_MAX;
+use libc::STDIN_FILENO;
+use link::receiver::REPLY_ROOM;
 ghost use Prim.Native.Nat.{_≤_, min};
+ghost use lib.ListN.{length};
+
+// The two numbers before the stream.
+const SIZE_END: usize = 4;
+
+const ROUNDS_END: usize = 8;
 
 fn main() {
-    let size = argument(1);
-    let rounds = argument(2);
-    let mut stream = io::large_buffer();
-    let length = io::read_full(0, &mut stream);
-    let last = feed_rounds(&stream[..length], size, rounds);
-    print_display(last);
+    let mut input = io::large_buffer();
+    let length = io::read_full(STDIN_FILENO, &mut input);
+    feed_input(&input[..length]);
 }
 
-// An argument of at most nine digits, as a number.
-fn argument(place: usize) -> usize {
-    let mut word = [0u8; 9];
-    let length = os::arg(place, &mut word);
-    number(&word[..length])
-}
-
-fn number(digits: &[u8]) -> usize {
-    let mut n: usize = 0;
-    let mut i: usize = 0;
-    while i < digits.len() {
-        n = with_digit(n, digits[i]);
-        i += 1;
+fn feed_input(input: &[u8]) {
+    if input.len() < ROUNDS_END {
+        return;
     }
-    n
-}
-
-fn with_digit(n: usize, digit: u8) -> usize {
-    let before = n % 100000000;
-    let last = (digit % 16) as usize;
-    before * 10 + last
+    let size = line::number(&input[..SIZE_END]) as usize;
+    let rounds = line::number(&input[SIZE_END..ROUNDS_END]) as usize;
+    let last = feed_rounds(&input[ROUNDS_END..], size, rounds);
+    display_cases::show_display(last);
 }
 
 fn feed_rounds(stream: &[u8], size: usize, rounds: usize) -> Display {
-    let watched = board::watch_list(b"\x01\x00\x02h1\x01\x00\x02h2");
-    let mut reply = [0u8; 9];
-    let mut packet = [0u8; 383];
-    let mut next = display::start(watched.board);
+    let mut reply = [0u8; REPLY_ROOM];
+    let mut packet = [0u8; PAYLOAD_MAX];
+    let mut next = display_cases::hive();
     let mut i: usize = 0;
     while i < rounds {
         next = feed(next, stream, size, &mut reply, &mut packet);
@@ -61,7 +56,9 @@ fn feed(
     size: usize,
     reply: &mut [u8],
     packet: &mut [u8],
-) -> Display {
+) -> Display
+    requires { ⌜ (9 ≤ length (now reply)) × (383 ≤ length (now packet)) ⌝ }
+{
     let mut next = display;
     let mut at: usize = 0;
     while at < stream.len() {
@@ -83,22 +80,15 @@ fn piece_length(size: usize, left: usize) -> usize
 }
 
 // Calls the receiver until the piece is taken.
-fn feed_piece(display: Display, piece: &[u8], reply: &mut [u8], packet: &mut [u8]) -> Display {
+fn feed_piece(display: Display, piece: &[u8], reply: &mut [u8], packet: &mut [u8]) -> Display
+    requires { ⌜ (9 ≤ length (now reply)) × (383 ≤ length (now packet)) ⌝ }
+{
     let mut next = display;
     let mut at: usize = 0;
     while at < piece.len() {
         let received = display::receive(next, &piece[at..], reply, packet);
         next = received.display;
-        if received.taken == 0 {
-            return next;
-        }
         at += received.taken;
     }
     next
-}
-
-fn print_display(display: Display) {
-    let link = display.link;
-    reports::counts(link.counts);
-    reports::rows(display.board);
 }

@@ -2,9 +2,15 @@
 use board::Listed;
 use display::Answer;
 use display::Display;
+use frame::PAYLOAD_MAX;
+use history::fields::FIELD_MAX;
 use history::fields::Head;
 use libc::STDIN_FILENO;
+use link::receiver::REPLY_ROOM;
 ghost use Rattle.display.specs.Taking.{Takes};
+
+// The bytes of a field's length.
+const LENGTH_BYTES: usize = 2;
 
 // What became of the next field: there is none; the history is broken there; reading or writing
 // failed; a name was listed; or the display took bytes or a tick.
@@ -38,9 +44,9 @@ pub(crate) fn field(display: Display, listing: bool) -> Step {
     if got == 0 {
         return with(display, Progress::Ended);
     }
-    let mut size = [0u8; 2];
+    let mut size = [0u8; LENGTH_BYTES];
     let count = io::read_full(STDIN_FILENO, &mut size);
-    if count != 2 {
+    if count != LENGTH_BYTES {
         return with(display, Progress::Broken);
     }
     let head = history::fields::judge(start[0], size[0], size[1], listing);
@@ -52,7 +58,7 @@ fn with(display: Display, progress: Progress) -> Step {
 }
 
 fn play(display: Display, head: Head) -> Step {
-    let mut space = io::buffer();
+    let mut space = [0u8; FIELD_MAX];
     match head {
         Head::Name(length) => body(display, &mut space, length, true),
         Head::Received(length) => body(display, &mut space, length, false),
@@ -106,8 +112,8 @@ fn feed(display: Display, bytes: &[u8]) -> Step {
 fn take(display: Display, piece: &[u8]) -> Taken
     ensures { λ r. ⌜ Takes (now (piece .entry)) (r .taken) ⌝ }
 {
-    let mut reply = [0u8; 9];
-    let mut packet = [0u8; 383];
+    let mut reply = [0u8; REPLY_ROOM];
+    let mut packet = [0u8; PAYLOAD_MAX];
     let received = display::receive(display, piece, &mut reply, &mut packet);
     let answer = received.answer;
     let printed = print_reply(answer, &reply);

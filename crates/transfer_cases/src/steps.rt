@@ -2,31 +2,30 @@
 use crate::report;
 use cases::line;
 use cases::print;
-use transfer::Outcome;
 use transfer::Transfer;
 
 // The longest lent buffer.
 pub const FILE_MAX: usize = 514;
 
 // A transfer, and how many bytes the lent buffer has.
-pub struct State {
+pub struct Receiving {
     transfer: Transfer,
     room: usize,
 }
 
-pub(crate) fn first() -> State {
+pub fn first() -> Receiving {
     let outcome = transfer::start(b"loc");
     let transfer = outcome.transfer;
-    State { transfer, room: 0 }
+    Receiving { transfer, room: 0 }
 }
 
-pub(crate) fn start(state: State, line: &[u8], location: &[u8], file: &mut [u8]) -> State {
+pub(crate) fn start(state: Receiving, line: &[u8], location: &[u8], file: &mut [u8]) -> Receiving {
     clear(file);
     let outcome = transfer::start(location);
     report::show(line, outcome);
     print::text(b"\n");
     let transfer = outcome.transfer;
-    State {
+    Receiving {
         transfer,
         room: state.room,
     }
@@ -37,13 +36,14 @@ fn clear(file: &mut [u8]) {
     slices::put(file, 0, &untouched);
 }
 
-pub(crate) fn give(state: State, line: &[u8], packet: &[u8], file: &mut [u8]) -> State {
+pub(crate) fn give(state: Receiving, line: &[u8], packet: &[u8], file: &mut [u8]) -> Receiving {
     let room = state.room;
     if file.len() < room {
+        line::not_run(line, b"too long a buffer");
         return state;
     }
     let transfer = take(state.transfer, line, packet, &mut file[..room]);
-    State { transfer, room }
+    Receiving { transfer, room }
 }
 
 fn take(before: Transfer, line: &[u8], packet: &[u8], file: &mut [u8]) -> Transfer {
@@ -53,29 +53,34 @@ fn take(before: Transfer, line: &[u8], packet: &[u8], file: &mut [u8]) -> Transf
     outcome.transfer
 }
 
-pub(crate) fn give_alone(state: State, line: &[u8], packet: &[u8], file: &mut [u8]) -> State {
+pub(crate) fn give_alone(
+    state: Receiving,
+    line: &[u8],
+    packet: &[u8],
+    file: &mut [u8],
+) -> Receiving {
     clear(file);
     let outcome = transfer::start(b"loc");
     let transfer = outcome.transfer;
-    let fresh = State {
+    let fresh = Receiving {
         transfer,
         room: state.room,
     };
     give(fresh, line, packet, file)
 }
 
-pub(crate) fn with_room(state: State, bytes: &[u8]) -> State {
+pub(crate) fn with_room(state: Receiving, bytes: &[u8]) -> Receiving {
     let transfer = state.transfer;
-    State {
+    Receiving {
         transfer,
         room: line::number(bytes) as usize,
     }
 }
 
-pub(crate) fn with_next(state: State, bytes: &[u8]) -> State {
+pub(crate) fn with_next(state: Receiving, bytes: &[u8]) -> Receiving {
     let mut transfer = state.transfer;
     transfer.next = line::number(bytes) as usize;
-    State {
+    Receiving {
         transfer,
         room: state.room,
     }

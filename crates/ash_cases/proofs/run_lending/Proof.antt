@@ -5,6 +5,12 @@ use borrow.Author.Needs.{needs}
 use Rattle.ash_cases.proofs.run_lending.Statement.{statement}
 use Rattle.ash_cases.proofs.run_lending.Tie as tie
 
+slice-aggregate-not-run : tie.Need-slice-aggregate-not-run
+slice-aggregate-not-run c = search needs
+
+not-run-requires : tie.Need-not-run-requires
+not-run-requires c κs = search needs
+
 returns : tie.Need-returns
 returns c = search needs
 
@@ -13,6 +19,12 @@ shared-slice-read-room c = omega arith
 
 cast-room : tie.Need-cast-room
 cast-room c = omega (arith, c .shared-slice-known3 .given 0)
+
+slice-aggregate-not-run-2 : tie.Need-slice-aggregate-not-run-2
+slice-aggregate-not-run-2 c = search needs
+
+not-run-requires-2 : tie.Need-not-run-requires-2
+not-run-requires-2 c κs = search needs
 
 returns-2 : tie.Need-returns-2
 returns-2 c = search needs
@@ -45,9 +57,13 @@ pub run-lending-spec : {M : Type 1} → statement M
 run-lending-spec =
     tie.close
     (tie.spec
+    slice-aggregate-not-run
+    not-run-requires
     returns
     shared-slice-read-room
     cast-room
+    slice-aggregate-not-run-2
+    not-run-requires-2
     returns-2
     sub-run-case
     part-run-case-start

@@ -1,7 +1,7 @@
 -- `receive_bench::feed` ends, since no piece is empty, and cuts its pieces within the stream.
 use native.Mathlib.Omega.{arith}
 use Prim.Native.Nat.{_-_, _≤_}
-use mathlib.Core.Path.{_≡_, _∙_}
+use mathlib.Core.Path.{_≡_}
 use borrow.Author.Needs.{needs}
 use lib.ListN.{length}
 use Rattle.receive_bench.proofs.feed.Statement.{statement}
@@ -36,7 +36,7 @@ part-feed-piece-end : tie.Need-part-feed-piece-end Inv-loop μ-loop
 part-feed-piece-end c = omega arith
 
 feed-piece-requires : tie.Need-feed-piece-requires Inv-loop μ-loop
-feed-piece-requires c κs = tt
+feed-piece-requires c κs = (omega arith, omega arith)
 
 loop-less : tie.Need-loop-less Inv-loop μ-loop
 loop-less c = omega arith

@@ -1,7 +1,7 @@
 -- `receive_bench::feed_rounds` ends: each turn leaves one round less.
 use native.Mathlib.Omega.{arith}
 use Prim.Native.Nat.{_-_, _≤_}
-use mathlib.Core.Path.{_≡_, _∙_}
+use mathlib.Core.Path.{_≡_}
 use borrow.Author.Needs.{needs}
 use lib.ListN.{length}
 use Rattle.receive_bench.proofs.feed_rounds.Statement.{statement}
@@ -14,14 +14,8 @@ Inv-loop stream size rounds reply₀ packet₀ next₀ i₀ reply packet next i 
 abbrev μ-loop : tie.MeasureT-loop
 μ-loop stream size rounds reply₀ packet₀ next₀ i₀ reply packet next i = rounds - i
 
-slice-aggregate-watch-list : tie.Need-slice-aggregate-watch-list Inv-loop μ-loop
-slice-aggregate-watch-list c = search needs
-
-watch-list-requires : tie.Need-watch-list-requires Inv-loop μ-loop
-watch-list-requires c κs = tt
-
-start-requires : tie.Need-start-requires Inv-loop μ-loop
-start-requires c κs = tt
+hive-requires : tie.Need-hive-requires Inv-loop μ-loop
+hive-requires c κs = tt
 
 loop-holds : tie.Need-loop-holds Inv-loop μ-loop
 loop-holds c = omega arith
@@ -33,7 +27,7 @@ slice-aggregate-feed-2 : tie.Need-slice-aggregate-feed-2 Inv-loop μ-loop
 slice-aggregate-feed-2 c = search needs
 
 feed-requires : tie.Need-feed-requires Inv-loop μ-loop
-feed-requires c κs = tt
+feed-requires c κs = (omega arith, omega arith)
 
 add-i : tie.Need-add-i Inv-loop μ-loop
 add-i c = omega arith
@@ -53,9 +47,7 @@ feed-rounds-spec =
     (tie.spec
     Inv-loop
     μ-loop
-    slice-aggregate-watch-list
-    watch-list-requires
-    start-requires
+    hive-requires
     loop-holds
     slice-aggregate-feed
     slice-aggregate-feed-2

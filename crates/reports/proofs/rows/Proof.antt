@@ -1,4 +1,4 @@
--- `reports::rows` goes through the rows of the board, and no further: the loop stops at the sixteenth.
+-- `reports::rows` goes through the rows of the board, and no further: the loop stops at the last.
 use native.Mathlib.Omega.{arith}
 use borrow.Author.Needs.{needs}
 use Prim.Native.Nat.{_-_, _≤_}

@@ -1,5 +1,4 @@
 -- `cases::line::digit` meets its contract: its test is that of the definition.
-use mathlib.Core.Path.{refl}
 use native.Mathlib.Omega.{arith}
 use borrow.Author.Tests.{lt-ltb, le-ltb}
 use Rattle.cases.proofs.line.digit.Statement.{statement}

@@ -1,5 +1,5 @@
 -- `cases::line::find` meets its contract: the bytes passed over and those before the mark in the rest are those before it in all.
-use mathlib.Core.Path.{_≡_, refl}
+use mathlib.Core.Path.{_≡_}
 use Prim.Native.Nat.{_+_, _-_, _≤_}
 use native.Mathlib.Omega.{arith}
 use lib.ListN.{length, drop}

@@ -5,6 +5,12 @@ use borrow.Author.Needs.{needs}
 use Rattle.display_cases.proofs.feeding.feed_zeros.Statement.{statement}
 use Rattle.display_cases.proofs.feeding.feed_zeros.Tie as tie
 
+slice-aggregate-not-run : tie.Need-slice-aggregate-not-run
+slice-aggregate-not-run c = search needs
+
+not-run-requires : tie.Need-not-run-requires
+not-run-requires c κs = search needs
+
 returns : tie.Need-returns
 returns c = search needs
 
@@ -23,4 +29,4 @@ returns-2 c = search needs
 pub feed-zeros-spec : {M : Type 1} → statement M
 feed-zeros-spec =
     tie.close
-    (tie.spec returns array-share-prefix-zeros slice-aggregate-feed feed-requires returns-2)
+    (tie.spec slice-aggregate-not-run not-run-requires returns array-share-prefix-zeros slice-aggregate-feed feed-requires returns-2)

@@ -2,7 +2,7 @@
 use Rattle.display.proofs.TakingLaws.{taken-of-rest}
 use borrow.Author.Needs.{needs}
 use native.Mathlib.Omega.{arith}
-use Prim.Native.Nat.{_-_, _≤_}
+use Prim.Native.Nat.{_+_, _-_, _≤_, _<_}
 use lib.ListN.{length}
 use Rattle.display_cases.proofs.feeding.pass.Statement.{statement}
 use Rattle.display_cases.proofs.feeding.pass.Tie as tie
@@ -12,6 +12,15 @@ Inv-loop stream shown passed₀ at₀ passed at = at ≤ length stream
 
 abbrev μ-loop : tie.MeasureT-loop
 μ-loop stream shown passed₀ at₀ passed at = length stream - at
+
+-- the call of a turn takes some of the rest
+some : (c : tie.After-take-piece Inv-loop μ-loop)
+    → let turn = c .before .before .before in
+    (0 < c .take-piece .result .taken) × (turn .loop .at + c .take-piece .result .taken ≤ length (turn .before .before .args .stream .now))
+some c =
+    let test = c .before .before in
+    let turn = test .before in
+    taken-of-rest (turn .before .before .args .stream .now) (turn .loop .at) _ (test .loop-test .taken) (c .take-piece .ensures)
 
 loop-holds : tie.Need-loop-holds Inv-loop μ-loop
 loop-holds c = omega arith
@@ -29,13 +38,19 @@ take-piece-requires : tie.Need-take-piece-requires Inv-loop μ-loop
 take-piece-requires c κs = tt
 
 add-at : tie.Need-add-at Inv-loop μ-loop
-add-at c = let r = taken-of-rest (c .before .before .before .before .before .before .before .args .stream .now) (c .before .before .before .before .before .loop .at) _ (c .before .before .before .before .loop-test .taken) (c .before .before .take-piece .ensures) in omega (arith, r .0, r .1)
+add-at c =
+    let taken = some (c .before .before) in
+    omega (arith, taken .0, taken .1)
 
 loop-less : tie.Need-loop-less Inv-loop μ-loop
-loop-less c = let r = taken-of-rest (c .before .before .before .before .before .before .before .args .stream .now) (c .before .before .before .before .before .loop .at) _ (c .before .before .before .before .loop-test .taken) (c .before .before .take-piece .ensures) in omega (arith, r .0, r .1)
+loop-less c =
+    let taken = some (c .before .before) in
+    omega (arith, taken .0, taken .1)
 
 loop-again : tie.Need-loop-again Inv-loop μ-loop
-loop-again c = let r = taken-of-rest (c .before .before .before .before .before .before .before .args .stream .now) (c .before .before .before .before .before .loop .at) _ (c .before .before .before .before .loop-test .taken) (c .before .before .take-piece .ensures) in omega (arith, r .0, r .1)
+loop-again c =
+    let taken = some (c .before .before) in
+    omega (arith, taken .0, taken .1)
 
 returns : tie.Need-returns Inv-loop μ-loop
 returns c = search needs

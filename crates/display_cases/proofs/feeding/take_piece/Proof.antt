@@ -32,7 +32,9 @@ show-answer-requires : tie.Need-show-answer-requires
 show-answer-requires c κs = tt
 
 returns : tie.Need-returns
-returns c = takes _ _ _ _ _ _ _ (c .before .before .before .before .before .before .before .receive .ensures)
+returns c =
+    let shown = c .before .before in
+    takes _ _ _ _ _ _ _ (shown .before .before .before .before .before .receive .ensures)
 
 pub take-piece-spec : {M : Type 1} → statement M
 take-piece-spec =

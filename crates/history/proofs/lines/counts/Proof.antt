@@ -51,15 +51,19 @@ same-length c = search needs
 
 returns : tie.Need-returns
 returns c =
-    let fourth = c .before .before .before .before .before .before .before in
-    let third = fourth .before .before .before .before .before .before in
-    let second = third .before .before .before .before .before .before in
-    let first = second .before .before .before .before .before .before in
+    let last = c .before .before in
+    let fourth = last .before .before .before .before .before in
+    let at-fourth = fourth .before in
+    let third = at-fourth .before .before .before .before .before in
+    let at-third = third .before in
+    let second = at-third .before .before .before .before .before in
+    let at-second = second .before in
+    let first = at-second .before .before .before .before .before in
     appends-both
     (appends-both
     (appends-both (appends-both (first .labelled .ensures) (second .labelled2 .ensures)) (third .labelled3 .ensures))
     (fourth .labelled4 .ensures))
-    (c .before .before .append .ensures)
+    (last .append .ensures)
 
 pub counts-spec : {M : Type 1} → statement M
 counts-spec =

@@ -14,7 +14,9 @@ same-length : tie.Need-same-length
 same-length c = search needs
 
 returns : tie.Need-returns
-returns c = appends-both (c .before .before .before .before .before .before .append .ensures) (c .before .before .decimal .ensures)
+returns c =
+    let second = c .before .before in
+    appends-both (second .before .before .before .before .append .ensures) (second .decimal .ensures)
 
 pub labelled-spec : {M : Type 1} → statement M
 labelled-spec = tie.close (tie.spec append-requires decimal-requires same-length returns)

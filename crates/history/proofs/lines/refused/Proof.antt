@@ -1,18 +1,15 @@
 -- `history::lines::refused` meets its contract: each turn appends a number, and the numbers behind it are left.
-use Rattle.history.proofs.LineLaws.{next-spaced, end-spaced}
 use borrow.Author.Needs.{needs}
-use mathlib.Core.Path.{_≡_, refl, _∙_}
-use Prim.Native.Nat.{_-_, _≤_}
+use Prim.Native.Nat.{_-_}
 use native.Mathlib.Omega.{arith}
-use lib.ListN.{length, drop}
-use Rattle.history.specs.Lines.{spaced}
-use Rattle.history.proofs.AppendingLaws.{Coming, appends-both, appends-length}
+use lib.ListN.{length}
+use Rattle.history.specs.Lines.{space, labelled}
+use Rattle.history.proofs.LineLaws.{Going, goes, goes-on, line-ends, line-keeps}
 use Rattle.history.proofs.lines.refused.Statement.{statement}
 use Rattle.history.proofs.lines.refused.Tie as tie
 
 abbrev Inv-loop : tie.InvT-loop
-Inv-loop out₀ counts place₀ i₀ t7 t8 out place i =
-    (i ≤ length counts) × (length out ≡ length out₀) × Coming (spaced counts) out₀ place₀ (spaced (drop i counts)) out place
+Inv-loop out₀ counts place₀ i₀ t7 t8 out place i = Going (labelled space) counts out₀ place₀ i out place
 
 abbrev μ-loop : tie.MeasureT-loop
 μ-loop out₀ counts place₀ i₀ t7 t8 out place i = length counts - i
@@ -24,7 +21,7 @@ append-requires : tie.Need-append-requires Inv-loop μ-loop
 append-requires c κs = search needs
 
 loop-holds : tie.Need-loop-holds Inv-loop μ-loop
-loop-holds c = (omega arith, refl, record { then = λ rest after end a. a })
+loop-holds c = goes
 
 mul-count : tie.Need-mul-count Inv-loop μ-loop
 mul-count c = search needs
@@ -49,10 +46,9 @@ loop-less c = search needs
 
 loop-again : tie.Need-loop-again Inv-loop μ-loop
 loop-again c =
-    let turn = c .before .before .before .before .before .before .before in
-    let list = turn .before .before .before .before .before .before .before .before .args .counts .now in
-    let more = c .before .before .before .before .before .before .loop-test .taken in
-    (omega arith, appends-length (c .before .before .labelled .ensures) ∙ turn .loop .inv .1, next-spaced list (turn .loop .i) more (turn .loop .inv .2) (c .before .before .labelled .ensures))
+    let call = c .before .before in
+    let test = call .before .before .before .before in
+    goes-on (test .before .loop .inv) (test .loop-test .taken) (call .labelled .ensures)
 
 slice-aggregate-append-2 : tie.Need-slice-aggregate-append-2 Inv-loop μ-loop
 slice-aggregate-append-2 c = search needs
@@ -61,14 +57,16 @@ append-requires-2 : tie.Need-append-requires-2 Inv-loop μ-loop
 append-requires-2 c κs = search needs
 
 same-length : tie.Need-same-length Inv-loop μ-loop
-same-length c = appends-length (c .before .before .append2 .ensures) ∙ c .before .before .before .before .before .before .loop .inv .1 ∙ appends-length (c .before .before .before .before .before .before .before .before .before .append .ensures)
+same-length c =
+    let test = c .before .before .before .before .before in
+    let turn = test .before in
+    line-keeps (turn .loop .inv) (turn .before .before .before .append .ensures) (c .before .before .append2 .ensures)
 
 returns : tie.Need-returns Inv-loop μ-loop
 returns c =
-    let turn = c .before .before .before .before .before .before in
-    let list = turn .before .before .before .before .before .before .before .before .args .counts .now in
-    let ended = c .before .before .before .before .before .loop-test .left in
-    appends-both (turn .before .before .before .append .ensures) (end-spaced list (turn .loop .i) ended (turn .loop .inv .2) (c .before .before .append2 .ensures))
+    let test = c .before .before .before .before .before in
+    let turn = test .before in
+    line-ends (turn .loop .inv) (test .loop-test .left) (turn .before .before .before .append .ensures) (c .before .before .append2 .ensures)
 
 pub refused-spec : {M : Type 1} → statement M
 refused-spec =

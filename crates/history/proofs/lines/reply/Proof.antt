@@ -1,18 +1,14 @@
 -- `history::lines::reply` meets its contract: each turn appends a byte in hex, and the bytes behind it are left.
-use Rattle.history.proofs.LineLaws.{next-hexOf, end-hexOf}
 use borrow.Author.Needs.{needs}
-use mathlib.Core.Path.{_≡_, refl, _∙_}
-use Prim.Native.Nat.{_-_, _≤_}
-use native.Mathlib.Omega.{arith}
-use lib.ListN.{length, drop}
-use Rattle.history.specs.Numbers.{hexOf}
-use Rattle.history.proofs.AppendingLaws.{Coming, appends-both, appends-length}
+use Prim.Native.Nat.{_-_}
+use lib.ListN.{length}
+use Rattle.history.specs.Numbers.{hexByte}
+use Rattle.history.proofs.LineLaws.{Going, goes, goes-on, line-ends, line-keeps}
 use Rattle.history.proofs.lines.reply.Statement.{statement}
 use Rattle.history.proofs.lines.reply.Tie as tie
 
 abbrev Inv-loop : tie.InvT-loop
-Inv-loop out₀ bytes place₀ i₀ t6 out place i =
-    (i ≤ length bytes) × (length out ≡ length out₀) × Coming (hexOf bytes) out₀ place₀ (hexOf (drop i bytes)) out place
+Inv-loop out₀ bytes place₀ i₀ t6 out place i = Going hexByte bytes out₀ place₀ i out place
 
 abbrev μ-loop : tie.MeasureT-loop
 μ-loop out₀ bytes place₀ i₀ t6 out place i = length bytes - i
@@ -24,7 +20,7 @@ append-requires : tie.Need-append-requires Inv-loop μ-loop
 append-requires c κs = search needs
 
 loop-holds : tie.Need-loop-holds Inv-loop μ-loop
-loop-holds c = (omega arith, refl, record { then = λ rest after end a. a })
+loop-holds c = goes
 
 shared-slice-read-hex : tie.Need-shared-slice-read-hex Inv-loop μ-loop
 shared-slice-read-hex c = search needs
@@ -40,10 +36,8 @@ loop-less c = search needs
 
 loop-again : tie.Need-loop-again Inv-loop μ-loop
 loop-again c =
-    let turn = c .before .before .before .before .before .before in
-    let list = turn .before .before .before .before .before .before .before .before .args .bytes .now in
-    let more = c .before .before .before .before .before .loop-test .taken in
-    (omega arith, appends-length (c .before .before .hex .ensures) ∙ turn .loop .inv .1, next-hexOf list (turn .loop .i) more (turn .loop .inv .2) (c .before .before .hex .ensures))
+    let test = c .before .before .before .before .before in
+    goes-on (test .before .loop .inv) (test .loop-test .taken) (c .before .before .hex .ensures)
 
 slice-aggregate-append-2 : tie.Need-slice-aggregate-append-2 Inv-loop μ-loop
 slice-aggregate-append-2 c = search needs
@@ -52,14 +46,16 @@ append-requires-2 : tie.Need-append-requires-2 Inv-loop μ-loop
 append-requires-2 c κs = search needs
 
 same-length : tie.Need-same-length Inv-loop μ-loop
-same-length c = appends-length (c .before .before .append2 .ensures) ∙ c .before .before .before .before .before .before .loop .inv .1 ∙ appends-length (c .before .before .before .before .before .before .before .before .before .append .ensures)
+same-length c =
+    let test = c .before .before .before .before .before in
+    let turn = test .before in
+    line-keeps (turn .loop .inv) (turn .before .before .before .append .ensures) (c .before .before .append2 .ensures)
 
 returns : tie.Need-returns Inv-loop μ-loop
 returns c =
-    let turn = c .before .before .before .before .before .before in
-    let list = turn .before .before .before .before .before .before .before .before .args .bytes .now in
-    let ended = c .before .before .before .before .before .loop-test .left in
-    appends-both (turn .before .before .before .append .ensures) (end-hexOf list (turn .loop .i) ended (turn .loop .inv .2) (c .before .before .append2 .ensures))
+    let test = c .before .before .before .before .before in
+    let turn = test .before in
+    line-ends (turn .loop .inv) (test .loop-test .left) (turn .before .before .before .append .ensures) (c .before .before .append2 .ensures)
 
 pub reply-spec : {M : Type 1} → statement M
 reply-spec =

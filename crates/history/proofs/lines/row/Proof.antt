@@ -29,9 +29,11 @@ same-length c = search needs
 
 returns-2 : tie.Need-returns-2
 returns-2 c =
-    let branch = c .before .before .before .before .before .before .before .before in
+    let second = c .before .before in
+    let first = second .before .before .before .before in
+    let branch = first .before .before in
     let named = named-row (branch .before .before .before .before .before .args .row) _ (branch .before .first .ensures) (branch .if1 .left) in
-    appends-same named (appends-both (c .before .before .before .before .before .before .append .ensures) (c .before .before .state .ensures))
+    appends-same named (appends-both (first .append .ensures) (second .state .ensures))
 
 pub row-spec : {M : Type 1} → statement M
 row-spec =

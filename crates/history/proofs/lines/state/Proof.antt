@@ -71,15 +71,15 @@ same-length-3 c = search needs
 
 returns-3 : tie.Need-returns-3
 returns-3 c =
-    let known = c .before .before .before .before .before .before .before .before .before .before .before .before .before .before .before .before .before .before .before .before in
-    let third = c .before .before .before .before .before .before .before in
+    let fourth = c .before .before in
+    let third = fourth .before .before .before .before .before in
     let second = third .before .before .before .before .before in
     let first = second .before .before .before .before in
-    let told = c .before .before .before .before .before .before .before .before .before .before .before .before .before .before .before .before .before .before .before .known-told .given in
-    let given = known .state .given in
-    let back : toZ w64 (ofZ w64 (given .0 .0)) ≡ given .0 .0 = toZ-ofZ (record { sfits = told .0 .1 }) in
+    let told = first .before .before .before in
+    let given = told .before .state .given in
+    let back : toZ w64 (ofZ w64 (given .0 .0)) ≡ given .0 .0 = toZ-ofZ (record { sfits = told .known-told .given .0 .1 }) in
     rw (given .1)
-    (appends-both (appends-both (appends-both (first .append3 .ensures) (appends-same (ap signedOf back) (second .signed .ensures))) (third .labelled .ensures)) (c .before .before .append4 .ensures))
+    (appends-both (appends-both (appends-both (first .append3 .ensures) (appends-same (ap signedOf back) (second .signed .ensures))) (third .labelled .ensures)) (fourth .append4 .ensures))
 
 pub state-spec : {M : Type 1} → statement M
 state-spec =

@@ -71,13 +71,15 @@ same-length c = search needs
 
 returns : tie.Need-returns Inv-loop μ-loop
 returns c =
-    let turn = c .before .before .before .before .before .before .before in
+    let call = c .before .before in
+    let test = call .before .before .before .before in
+    let turn = test .before in
     let loop = turn .loop in
     let digits = set (loop .digits) (loop .left) (48 + loop .rest) in
     let size : length digits ≡ 20 = simp length-set (loop .inv .2) in
     let all = take-all (20 - loop .left) (drop (loop .left) digits) (simp length-drop (omega (arith, size))) in
-    let text = all ∙ first-digit (turn .before .before .args .number) (loop .digits) (loop .left) (loop .rest) (c .before .before .before .before .before .before .loop-test .left) (loop .inv) in
-    appends-same text (c .before .before .append .ensures)
+    let text = all ∙ first-digit (turn .before .before .args .number) (loop .digits) (loop .left) (loop .rest) (test .loop-test .left) (loop .inv) in
+    appends-same text (call .append .ensures)
 
 pub decimal-spec : {M : Type 1} → statement M
 decimal-spec =

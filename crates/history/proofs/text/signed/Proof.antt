@@ -30,13 +30,15 @@ same-length c = search needs
 
 returns : tie.Need-returns
 returns c =
-    let branch = c .before .before .before .before .before .before .before .before .before in
+    let second = c .before .before in
+    let first = second .before .before .before .before in
+    let branch = first .before .before .before in
     let start = branch .before .before .before in
     let number = start .args .number in
     let size : branch .before .magnitude .result ≡ natAbs (toZ w64 (ofZ w64 number)) = branch .before .magnitude .ensures in
     let whole = size ∙ ap natAbs (toZ-ofZ w64 number (start .fits .number)) in
     let text = ap (λ (n : ℕ). 45 ∷ decimalOf n) whole ∙ signed-negative number (start .fits .number) (branch .if1 .taken) in
-    appends-same text (appends-both (c .before .before .before .before .before .before .append .ensures) (c .before .before .decimal .ensures))
+    appends-same text (appends-both (first .append .ensures) (second .decimal .ensures))
 
 decimal-requires-2 : tie.Need-decimal-requires-2
 decimal-requires-2 c κs = search needs

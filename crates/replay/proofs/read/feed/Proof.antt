@@ -14,9 +14,13 @@ abbrev μ-loop : tie.MeasureT-loop
 μ-loop bytes next₀ at₀ next at = length bytes - at
 
 -- the call of a turn takes some of the rest
-some : (c : tie.After-struct-known2 Inv-loop μ-loop)
-    → (0 < c .before .before .before .before .take .result .taken) × (c .before .before .before .before .before .before .before .loop .at + c .before .before .before .before .take .result .taken ≤ length (c .before .before .before .before .before .before .before .before .before .args .bytes .now))
-some c = taken-of-rest (c .before .before .before .before .before .before .before .before .before .args .bytes .now) (c .before .before .before .before .before .before .before .loop .at) _ (c .before .before .before .before .before .before .loop-test .taken) (c .before .before .before .before .take .ensures)
+some : (c : tie.After-take Inv-loop μ-loop)
+    → let turn = c .before .before .before in
+    (0 < c .take .result .taken) × (turn .loop .at + c .take .result .taken ≤ length (turn .before .before .args .bytes .now))
+some c =
+    let test = c .before .before in
+    let turn = test .before in
+    taken-of-rest (turn .before .before .args .bytes .now) (turn .loop .at) _ (test .loop-test .taken) (c .take .ensures)
 
 loop-holds : tie.Need-loop-holds Inv-loop μ-loop
 loop-holds c = search needs
@@ -40,13 +44,13 @@ returns : tie.Need-returns Inv-loop μ-loop
 returns c = search needs
 
 add-at : tie.Need-add-at Inv-loop μ-loop
-add-at c = omega (arith, some c .0, some c .1)
+add-at c = let taken = some (c .before .before .before .before) in omega (arith, taken .0, taken .1)
 
 loop-less : tie.Need-loop-less Inv-loop μ-loop
-loop-less c = omega (arith, some c .0, some c .1)
+loop-less c = let taken = some (c .before .before .before .before) in omega (arith, taken .0, taken .1)
 
 loop-again : tie.Need-loop-again Inv-loop μ-loop
-loop-again c = omega (arith, some c .0, some c .1)
+loop-again c = let taken = some (c .before .before .before .before) in omega (arith, taken .0, taken .1)
 
 with-requires-2 : tie.Need-with-requires-2 Inv-loop μ-loop
 with-requires-2 c κs = search needs

@@ -5,6 +5,12 @@ use borrow.Author.Needs.{needs}
 use Rattle.transfer_cases.proofs.steps.give.Statement.{statement}
 use Rattle.transfer_cases.proofs.steps.give.Tie as tie
 
+slice-aggregate-not-run : tie.Need-slice-aggregate-not-run
+slice-aggregate-not-run c = search needs
+
+not-run-requires : tie.Need-not-run-requires
+not-run-requires c κs = search needs
+
 returns : tie.Need-returns
 returns c = search needs
 
@@ -27,6 +33,8 @@ pub give-spec : {M : Type 1} → statement M
 give-spec =
     tie.close
     (tie.spec
+    slice-aggregate-not-run
+    not-run-requires
     returns
     slice-relend-prefix-take
     slice-aggregate-take

@@ -1,7 +1,6 @@
-// Runs the proved functions of the board on the cases of the file `stdin`, and prints what they answer
-// and what the rows show. That is compared with the file `stdout`, which has what document 01 says of
-// them: Known answers for the values of cases 7 to 9, for case 6 and for age 29, and Items and packets,
-// The board and Refusal numbers for the rest.
+// The functions of the board, what they answer and what the rows show, by document 01: Known answers
+// for the values of cases 7 to 9, for case 6 and for age 29, and Items and packets, The board and
+// Refusal numbers for the rest.
 //
 // The keys: `v` the type and the bytes of a value item, `w` a watch list, `r` a packet read by a board
 // of h1 and h2, `t` a number of ticks after the update of case 6, `u` the same and that update again.
@@ -13,45 +12,24 @@ use boards::show_reading;
 use boards::updated;
 use cases::line;
 use cases::print;
-use libc::STDIN_FILENO;
 use rows::Board;
 use value::Value;
 
-fn main() {
-    let mut input = io::large_buffer();
-    let length = io::read_full(STDIN_FILENO, &mut input);
-    run_all(&input[..length]);
-}
-
-fn run_all(text: &[u8]) {
-    let mut at: usize = 0;
-    while at < text.len() {
-        run(line::at(text, at));
-        at = line::behind(text, at);
-    }
-}
-
-fn run(line: &[u8]) {
-    let mut bytes = [0u8; 300];
-    let count = line::bytes(line, &mut bytes);
-    run_case(line, &bytes[..count]);
-}
-
-// A line with another key is a heading or empty.
-fn run_case(line: &[u8], bytes: &[u8]) {
+pub fn run(line: &[u8], bytes: &[u8]) {
     let key = line::key(line);
     match key {
         b'v' => show_value(line, bytes),
         b'w' => show_list(line, bytes),
         b'r' => show_reading(line, bytes),
-        b't' => show_board(line, ticked(updated(), ticks(bytes))),
-        b'u' => show_board(line, case_6(ticked(updated(), ticks(bytes)))),
-        _ => {}
+        b't' => show_board(line, ticked(updated(), line::number(bytes))),
+        b'u' => show_board(line, case_6(ticked(updated(), line::number(bytes)))),
+        _ => line::not_run(line, b"no such key"),
     }
 }
 
 fn show_value(line: &[u8], bytes: &[u8]) {
     if bytes.len() == 0 {
+        line::not_run(line, b"too few bytes");
         return;
     }
     line::label(line);
@@ -71,19 +49,14 @@ fn show_number(number: i64) {
     print::text(b"\n");
 }
 
-fn ticked(board: Board, ticks: u32) -> Board {
+fn ticked(board: Board, ticks: u64) -> Board {
     let mut next = board;
-    let mut i: u32 = 0;
+    let mut i: u64 = 0;
     while i < ticks {
         next = rows::lent_tick(next);
         i += 1;
     }
     next
-}
-
-// At most 255 ticks.
-fn ticks(bytes: &[u8]) -> u32 {
-    (line::number(bytes) % 256) as u32
 }
 
 fn show_board(line: &[u8], board: Board) {

@@ -1,16 +1,20 @@
--- `ash_cases::run_all` goes through the lines of its text, and ends: each line takes some of it.
+-- `run_cases::run_all` goes through the lines of its text, and ends: each line takes some of it.
+use mathlib.Core.Path.{_≡_}
 use native.Mathlib.Omega.{arith}
 use borrow.Author.Needs.{needs}
 use Prim.Native.Nat.{_-_}
 use lib.ListN.{length}
-use Rattle.ash_cases.proofs.run_all.Statement.{statement}
-use Rattle.ash_cases.proofs.run_all.Tie as tie
+use Rattle.run_cases.proofs.run_all.Statement.{statement}
+use Rattle.run_cases.proofs.run_all.Tie as tie
 
 abbrev Inv-loop : tie.InvT-loop
-Inv-loop text at₀ at = Unit {0}
+Inv-loop text file₀ state₀ at₀ file state at = length file ≡ length file₀
 
 abbrev μ-loop : tie.MeasureT-loop
-μ-loop text at₀ at = length text - at
+μ-loop text file₀ state₀ at₀ file state at = length text - at
+
+first-requires : tie.Need-first-requires Inv-loop μ-loop
+first-requires c κs = tt
 
 loop-holds : tie.Need-loop-holds Inv-loop μ-loop
 loop-holds c = search needs
@@ -30,6 +34,9 @@ loop-less c = omega (arith, c .behind .ensures)
 loop-again : tie.Need-loop-again Inv-loop μ-loop
 loop-again c = search needs
 
+same-length : tie.Need-same-length Inv-loop μ-loop
+same-length c = search needs
+
 returns : tie.Need-returns Inv-loop μ-loop
 returns c = search needs
 
@@ -39,10 +46,12 @@ run-all-spec =
     (tie.spec
     Inv-loop
     μ-loop
+    first-requires
     loop-holds
     at-requires
     run-requires
     behind-requires
     loop-less
     loop-again
+    same-length
     returns)

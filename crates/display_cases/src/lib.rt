@@ -1,0 +1,42 @@
+// The display on streams: the answer of each call, then the counts and the rows, by document 01: The
+// receiver, The board, Refusal numbers for the order of refusals, and the cases that Known answers has
+// run and compared.
+//
+// The keys: `s` a fresh display that watches h1 and h2, `f` feeds it a stream, `z` feeds it a number of
+// zeros, `a` a number of acknowledgements with no answer printed, `t` ticks it, `b` calls it with
+// buffers that are a byte too short, `c` prints its counts and rows, `k` cuts a stream at every place.
+mod calls;
+mod cuts;
+mod feeding;
+
+pub use calls::show_display;
+use cases::line;
+use cases::print;
+use display::Display;
+pub use feeding::hive;
+
+pub fn run(display: Display, line: &[u8], bytes: &[u8]) -> Display {
+    let key = line::key(line);
+    match key {
+        b's' => start(line),
+        b'f' => feeding::feed(display, bytes),
+        b'z' => feeding::feed_zeros(display, line, line::number(bytes)),
+        b'a' => feeding::feed_acknowledgements(display, line::number(bytes)),
+        b't' => display::tick(display),
+        b'b' => calls::short_buffers(display, bytes),
+        b'c' => calls::show_display(display),
+        b'k' => cuts::compare(display, bytes),
+        _ => no_key(display, line),
+    }
+}
+
+fn no_key(display: Display, line: &[u8]) -> Display {
+    line::not_run(line, b"no such key");
+    display
+}
+
+fn start(line: &[u8]) -> Display {
+    line::label(line);
+    print::text(b"\n");
+    hive()
+}

@@ -8,7 +8,7 @@ use mathlib.Core.Option.{Option, some, none}
 use lib.Dec.{eqb, leb, ltb}
 use lib.ListN.{length, take}
 use Rattle.refusals.specs.Numbers.{badList}
-use Rattle.slices.specs.HighFirst.{pairOf}
+use Rattle.slices.specs.HighFirst.{pairOf, highFirst}
 use Rattle.packet.specs.Names.{validName}
 use Rattle.rows.specs.Names.{placeOf, isIn}
 use Rattle.rows.specs.Rows.{rowCount, rowNames, watched, freshRow, putRow, boardOf}
@@ -57,7 +57,7 @@ watchNames limit fields = namesFrom limit 0 [] fields
 
 -- a name as a field, and names as a list of fields
 abbrev pub nameField : List ℕ → List ℕ
-nameField name = 0x01 ∷ length name / 256 ∷ length name % 256 ∷ name
+nameField name = 0x01 ∷ highFirst 2 (length name) ++ name
 
 unfoldable pub fieldsOf : List (List ℕ) → List ℕ
 fieldsOf [] = []

@@ -5,6 +5,7 @@ use mathlib.Core.Bool.{cond}
 use mathlib.Core.List.{List, [], _∷_}
 use lib.Bits.{bitXor}
 use lib.Dec.{eqb}
+use Rattle.slices.specs.HighFirst.{highFirst}
 
 -- the start value of this link's check
 abbrev pub linkStart : ℕ
@@ -30,4 +31,4 @@ crcOf r (b ∷ bs) = crcOf (addByte r b) bs
 
 -- 01, Frames: the check goes out as two bytes, high byte first
 abbrev pub checkBytes : ℕ → List ℕ
-checkBytes c = c / 0x100 ∷ c % 0x100 ∷ []
+checkBytes c = highFirst 2 c

@@ -114,13 +114,13 @@ module _ (fields : List ℕ) (board : Board) (at : ℕ) (r : Reached fields boar
       sym (r .still) ∙ field-bad (r .names) (drop at fields) left bad
 
   -- so does a name that is refused
-  pub reached-refused : (size number : ℕ) → fieldOf (drop at fields) ≡ some size → watchBoard board (nameAt fields at size) .answer ≡ Refused number → watchNames rowCount fields ≡ none
+  pub reached-refused : (size number : ℕ) → fieldOf (drop at fields) ≡ some size → watchBoard rowCount board (nameAt fields at size) .answer ≡ Refused number → watchNames rowCount fields ≡ none
   reached-refused size number field refused =
       let stays = refused-stays (r .names) (nameAt fields at size) number (r .good) (rw (r .is) at refused) in
       sym (r .still) ∙ field-next (r .names) (drop at fields) size field ∙ rw stays
 
   -- one that is accepted is the next of the names
-  pub reached-next : (size : ℕ) → fieldOf (drop at fields) ≡ some size → watchBoard board (nameAt fields at size) .answer ≡ Accepted → Reached fields (watchBoard board (nameAt fields at size) .board) (at + (size + 3))
+  pub reached-next : (size : ℕ) → fieldOf (drop at fields) ≡ some size → watchBoard rowCount board (nameAt fields at size) .answer ≡ Accepted → Reached fields (watchBoard rowCount board (nameAt fields at size) .board) (at + (size + 3))
   reached-next size field accepted =
       let name = nameAt fields at size in
       let joins = accepted-joins (r .names) name (r .good) (rw (r .is) at accepted) in
@@ -136,7 +136,7 @@ module _ (fields : List ℕ) (board : Board) (at : ℕ) (r : Reached fields boar
       }
 
   -- at the end the board is that of the whole list
-  pub reached-end : length fields ≤ at → acceptedWith board ≡ asWatched (watchNames rowCount fields)
+  pub reached-end : length fields ≤ at → acceptedWith board ≡ asWatched rowCount (watchNames rowCount fields)
   unfolding namesFrom
   reached-end ended =
       let nothing : drop at fields ≡ [] = drop-of-length-le fields ended in

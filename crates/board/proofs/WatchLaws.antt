@@ -36,7 +36,7 @@ join-row names name k h =
     (ap (λ (rows : List Row). record { rows = rows }) (change-unused names name k))
 
 -- one name more on a board of ours: the board of the names with it, in their order
-pub watch-more : (names : List (List ℕ)) (name : List ℕ) → Good rowCount names → mayJoin rowCount names name ≡ true → watchBoard (boardOf rowCount names) name ≡ acceptedWith (boardOf rowCount (names ++ (name ∷ [])))
+pub watch-more : (names : List (List ℕ)) (name : List ℕ) → Good rowCount names → mayJoin rowCount names name ≡ true → watchBoard rowCount (boardOf rowCount names) name ≡ acceptedWith (boardOf rowCount (names ++ (name ∷ [])))
 unfolding watchBoard
 watch-more names name o h =
     let few = join-few names name h in
@@ -45,12 +45,12 @@ watch-more names name o h =
     rw (watched-names names (good-fits names (o .valid)), h, now, then) (ap acceptedWith (join-row names name (rowCount - suc (length names)) (good-fits names (o .valid))))
 
 -- or the refusal, with the board as it was
-pub watch-refused : (names : List (List ℕ)) (name : List ℕ) → Good rowCount names → mayJoin rowCount names name ≡ false → watchBoard (boardOf rowCount names) name ≡ refusedWith (boardOf rowCount names)
+pub watch-refused : (names : List (List ℕ)) (name : List ℕ) → Good rowCount names → mayJoin rowCount names name ≡ false → watchBoard rowCount (boardOf rowCount names) name ≡ refusedWith (boardOf rowCount names)
 unfolding watchBoard
 watch-refused names name o h = rw (watched-names names (good-fits names (o .valid)), h)
 
 -- so the answer tells which it was
-pub accepted-joins : (names : List (List ℕ)) (name : List ℕ) → Good rowCount names → watchBoard (boardOf rowCount names) name .answer ≡ Accepted → mayJoin rowCount names name ≡ true
+pub accepted-joins : (names : List (List ℕ)) (name : List ℕ) → Good rowCount names → watchBoard rowCount (boardOf rowCount names) name .answer ≡ Accepted → mayJoin rowCount names name ≡ true
 accepted-joins names name o e = cases (mayJoin rowCount names name) refl
   where
     cases : (t : Bool) → mayJoin rowCount names name ≡ t → t ≡ true
@@ -59,7 +59,7 @@ accepted-joins names name o e = cases (mayJoin rowCount names name) refl
         let r = watch-refused names name o h in
         impossible cc
 
-pub refused-stays : (names : List (List ℕ)) (name : List ℕ) (number : ℕ) → Good rowCount names → watchBoard (boardOf rowCount names) name .answer ≡ Refused number → mayJoin rowCount names name ≡ false
+pub refused-stays : (names : List (List ℕ)) (name : List ℕ) (number : ℕ) → Good rowCount names → watchBoard rowCount (boardOf rowCount names) name .answer ≡ Refused number → mayJoin rowCount names name ≡ false
 refused-stays names name number o e = cases (mayJoin rowCount names name) refl
   where
     cases : (t : Bool) → mayJoin rowCount names name ≡ t → t ≡ false
@@ -71,13 +71,13 @@ refused-stays names name number o e = cases (mayJoin rowCount names name) refl
 -- a name on any board, in the order of the code
 module _ (board : Board) (name : List ℕ) where
   -- a bad name
-  pub watch-bad : validName name ≡ false → watchBoard board name ≡ refusedWith board
+  pub watch-bad : validName name ≡ false → watchBoard rowCount board name ≡ refusedWith board
   unfolding watchBoard mayJoin
   watch-bad bad = rw bad
 
   module _ (valid : validName name ≡ true) where
     -- a name that a row has
-    pub watch-again : {place : ℕ} → placeOf name (rowNames board) ≡ some place → watchBoard board name ≡ refusedWith board
+    pub watch-again : {place : ℕ} → placeOf name (rowNames board) ≡ some place → watchBoard rowCount board name ≡ refusedWith board
     unfolding watchBoard mayJoin
     watch-again e = rw (valid, in-used name (rowNames board) (valid-fit name valid .some), e)
 
@@ -86,12 +86,12 @@ module _ (board : Board) (name : List ℕ) where
       has-room = let all : length (rowNames board) ≡ rowCount = length-map (board .rows) rowName ∙ rows in rw (← all) (room (rowNames board))
 
       -- no row is unused
-      pub watch-full : placeOf [] (rowNames board) ≡ none → watchBoard board name ≡ refusedWith board
+      pub watch-full : placeOf [] (rowNames board) ≡ none → watchBoard rowCount board name ≡ refusedWith board
       unfolding watchBoard mayJoin
       watch-full e = rw (valid, has-room, e, never (not (isIn name (watched board))))
 
       -- the first unused row takes it
-      pub watch-first : {place : ℕ} → placeOf name (rowNames board) ≡ none → placeOf [] (rowNames board) ≡ some place → watchBoard board name ≡ acceptedWith (putRow place (freshRow name) board)
+      pub watch-first : {place : ℕ} → placeOf name (rowNames board) ≡ none → placeOf [] (rowNames board) ≡ some place → watchBoard rowCount board name ≡ acceptedWith (putRow place (freshRow name) board)
       unfolding watchBoard mayJoin
       watch-first new e = rw (valid, in-used name (rowNames board) (valid-fit name valid .some), new, has-room, e)
 

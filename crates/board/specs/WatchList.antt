@@ -1,6 +1,6 @@
 -- 01, The board: the watch list is stored as tagged fields: one-byte tag, two-byte length (high byte first), value. Tag 01 is a name. At
 -- most so many names as there are rows, 0 allowed, no name twice; a bad name, another tag or a cut field is refusal 15 too.
-use Prim.Native.Nat.{ℕ, zero, suc, _/_, _%_, _≤_}
+use Prim.Native.Nat.{ℕ, zero, suc, _≤_}
 use mathlib.Core.Path.{_≡_}
 use mathlib.Core.Bool.{Bool, true, cond, not, _&&_}
 use mathlib.Core.List.{List, [], _∷_, _++_}
@@ -11,7 +11,7 @@ use Rattle.refusals.specs.Numbers.{badList}
 use Rattle.slices.specs.HighFirst.{pairOf, highFirst}
 use Rattle.packet.specs.Names.{validName}
 use Rattle.rows.specs.Names.{placeOf, isIn}
-use Rattle.rows.specs.Rows.{rowCount, rowNames, watched, freshRow, putRow, boardOf}
+use Rattle.rows.specs.Rows.{rowNames, watched, freshRow, putRow, boardOf}
 use Rattle.rows.specs.declared.Board.{Board}
 use Rattle.board.specs.declared.list.Listed.the-variants.{Accepted, Refused}
 use Rattle.board.specs.declared.list.Watched.{Watched}
@@ -71,9 +71,9 @@ abbrev pub acceptedWith : Board → Watched
 acceptedWith board = record { board = board; answer = Accepted }
 
 -- the answer to a watch list: the board of its names, and where it is refused a board that shows nothing of it
-abbrev pub asWatched : Option (List (List ℕ)) → Watched
-asWatched (some names) = acceptedWith (boardOf rowCount names)
-asWatched none = refusedWith (boardOf rowCount [])
+abbrev pub asWatched : ℕ → Option (List (List ℕ)) → Watched
+asWatched limit (some names) = acceptedWith (boardOf limit names)
+asWatched limit none = refusedWith (boardOf limit [])
 
 -- the board with the name in the row at place
 abbrev pub joinBoard : Board → List ℕ → Option ℕ → Board
@@ -81,6 +81,6 @@ joinBoard board name (some place) = putRow place (freshRow name) board
 joinBoard board name none = board
 
 -- one name more: in the first unused row, or refused with the board as it was
-unfoldable pub watchBoard : Board → List ℕ → Watched
-watchBoard board name =
-    cond (mayJoin rowCount (watched board) name) (acceptedWith (joinBoard board name (placeOf [] (rowNames board)))) (refusedWith board)
+unfoldable pub watchBoard : ℕ → Board → List ℕ → Watched
+watchBoard limit board name =
+    cond (mayJoin limit (watched board) name) (acceptedWith (joinBoard board name (placeOf [] (rowNames board)))) (refusedWith board)

@@ -13,6 +13,9 @@ use rows::put_row;
 // The tag of a name in a watch list.
 pub const NAME_TAG: u8 = 0x01;
 
+// A field's tag and length stand in front of its value.
+const FIELD_HEAD: usize = 3;
+
 // Whether what was asked to be watched is watched.
 pub enum Listed {
     Accepted,
@@ -32,7 +35,7 @@ enum Field {
 
 // The board of a watch list. Where the list is refused the board shows nothing of it.
 pub fn watch_list(fields: &[u8]) -> Watched
-    ensures { λ r. ⌜ r ≡ asWatched (watchNames rowCount (now (fields .entry))) ⌝ }
+    ensures { λ r. ⌜ r ≡ asWatched rowCount (watchNames rowCount (now (fields .entry))) ⌝ }
 {
     let mut board = fresh();
     let mut at: usize = 0;
@@ -41,8 +44,8 @@ pub fn watch_list(fields: &[u8]) -> Watched
         let Field::Name(size) = read_field(rest) else {
             return refused(fresh());
         };
-        let end = size + 3;
-        let watched = watch(board, &rest[3..end]);
+        let end = size + FIELD_HEAD;
+        let watched = watch(board, &rest[FIELD_HEAD..end]);
         let answer = watched.answer;
         if let Listed::Refused(_) = answer {
             return refused(fresh());
@@ -58,7 +61,7 @@ pub fn watch_list(fields: &[u8]) -> Watched
 
 // The board with one name more, or as it was where the name is refused.
 pub fn watch(board: Board, name: &[u8]) -> Watched
-    ensures { λ r. ⌜ r ≡ watchBoard board (now (name .entry)) ⌝ }
+    ensures { λ r. ⌜ r ≡ watchBoard rowCount board (now (name .entry)) ⌝ }
 {
     if !packet::valid_name(name) {
         return refused(board);
@@ -89,14 +92,14 @@ fn refused(board: Board) -> Watched
 fn read_field(rest: &[u8]) -> Field
     ensures { λ r. ⌜ r ≡ asField (fieldOf (now (rest .entry))) ⌝ }
 {
-    if rest.len() < 3 {
+    if rest.len() < FIELD_HEAD {
         return Field::Bad;
     }
     if rest[0] != NAME_TAG {
         return Field::Bad;
     }
     let size = slices::pair(rest[1], rest[2]) as usize;
-    if rest.len() - 3 < size {
+    if rest.len() - FIELD_HEAD < size {
         return Field::Bad;
     }
     Field::Name(size)

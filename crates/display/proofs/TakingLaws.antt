@@ -4,7 +4,9 @@ use mathlib.Core.List.{List}
 use Prim.Native.Nat.{ℕ, _+_, _-_, _≤_, _<_}
 use lib.ListN.{length, take, drop, length-take, length-drop}
 use native.Mathlib.Omega.{arith}
+use Rattle.frame.specs.Content.{payloadMax}
 use Rattle.rows.specs.declared.Board.{Board}
+use Rattle.link.specs.Closing.{replyRoom}
 use Rattle.link.specs.Receiving.{Call, receiveOf}
 use Rattle.link.specs.declared.receiver.Answer as link-answer
 use Rattle.link.proofs.TakenLaws.{taken-progress, taken-within}
@@ -21,7 +23,7 @@ taken-by-link (link-answer.the-variants.Again reply) board call = refl
 taken-by-link (link-answer.the-variants.New reply packet) board call = refl
 
 pub takes-some : (display : Display) (piece : List ℕ) (replySize packetSize : ℕ) (reply packet reply₁ packet₁ : List ℕ) (received : Received)
-    → 9 ≤ replySize → 383 ≤ packetSize → DisplaysAs (receivePiece display piece replySize packetSize) reply packet received reply₁ packet₁
+    → replyRoom ≤ replySize → payloadMax ≤ packetSize → DisplaysAs (receivePiece display piece replySize packetSize) reply packet received reply₁ packet₁
     → Takes piece (received .taken)
 unfolding receivePiece
 takes-some display piece replySize packetSize reply packet reply₁ packet₁ received a b r =
@@ -35,8 +37,8 @@ takes-some display piece replySize packetSize reply packet reply₁ packet₁ re
     })
 
 pub takes : (display : Display) (piece reply packet reply₁ packet₁ : List ℕ) (received : Received)
-    → DisplaysAs (receivePiece display piece 9 383) reply packet received reply₁ packet₁ → Takes piece (received .taken)
-takes display piece reply packet reply₁ packet₁ received r = takes-some display piece 9 383 reply packet reply₁ packet₁ received (omega arith) (omega arith) r
+    → DisplaysAs (receivePiece display piece replyRoom payloadMax) reply packet received reply₁ packet₁ → Takes piece (received .taken)
+takes display piece reply packet reply₁ packet₁ received r = takes-some display piece replyRoom payloadMax reply packet reply₁ packet₁ received (omega arith) (omega arith) r
 
 -- the rest of a stream loses some, and no more than it has
 pub taken-of-rest : (stream : List ℕ) (at taken : ℕ) → at < length stream → Takes (take (length stream - at) (drop at stream)) taken

@@ -6,6 +6,11 @@ use display::Display;
 use frame::CONTENT_MAX;
 use frame::PAYLOAD_MAX;
 use link::receiver::REPLY_ROOM;
+ghost use mathlib.Core.Path.{_≡_};
+ghost use mathlib.Core.List.{[], _∷_};
+ghost use Rattle.rows.specs.Rows.{rowCount};
+ghost use Rattle.board.specs.WatchList.{watchNames, asWatched};
+ghost use Rattle.display.specs.Display.{fresh};
 ghost use Rattle.display.specs.Taking.{Takes};
 
 // A display, and a check over all that was handed out on the way to it.
@@ -20,7 +25,9 @@ struct Call {
 }
 
 // A fresh display that watches h1 and h2.
-pub fn hive() -> Display {
+pub fn fresh_display() -> Display
+    ensures { λ r. ⌜ r ≡ fresh (asWatched rowCount (watchNames rowCount (0x01 ∷ 0x00 ∷ 0x02 ∷ 0x68 ∷ 0x31 ∷ 0x01 ∷ 0x00 ∷ 0x02 ∷ 0x68 ∷ 0x32 ∷ [])) .board) ⌝ }
+{
     let watched = board::watch_list(b"\x01\x00\x02h1\x01\x00\x02h2");
     display::start(watched.board)
 }

@@ -13,7 +13,7 @@ pub use calls::show_display;
 use cases::line;
 use cases::print;
 use display::Display;
-pub use feeding::hive;
+pub use feeding::fresh_display;
 
 pub fn run(display: Display, line: &[u8], bytes: &[u8]) -> Display {
     let key = line::key(line);
@@ -38,5 +38,5 @@ fn no_key(display: Display, line: &[u8]) -> Display {
 fn start(line: &[u8]) -> Display {
     line::label(line);
     print::text(b"\n");
-    hive()
+    fresh_display()
 }

@@ -13,12 +13,13 @@ use Rattle.frame.proofs.RefusalLaws.{run-number}
 use Rattle.frame.proofs.FrameTheorems.{run-bounded}
 use Rattle.ledger.specs.Frames as frames
 use Rattle.ledger.specs.Frames.{Frame, byType, frameOf}
+use Rattle.ledger.specs.Calls.{packetRoom}
 
 -- a refusal has a number from 1 to 6, and a good data frame at most 383 bytes of payload
 abbrev Bounded : Frame → Type 0
 Bounded (frames.refused n) = (1 ≤ n) × (n ≤ 6)
 Bounded (frames.acknowledgement sequence) = Unit {0}
-Bounded (frames.good sequence payload) = length payload ≤ 383
+Bounded (frames.good sequence payload) = length payload ≤ packetRoom
 
 frame-bounded : (run : List ℕ) → Bounded (frameOf run)
 unfolding frameOf
@@ -38,5 +39,5 @@ frame-bounded run = by-read (readRun run) refl
 pub frame-number : (run : List ℕ) (n : ℕ) → frameOf run ≡ frames.refused n → (1 ≤ n) × (n ≤ 6)
 frame-number run n e = rw e at (frame-bounded run)
 
-pub payload-bounded : (run : List ℕ) (sequence : ℕ) (payload : List ℕ) → frameOf run ≡ frames.good sequence payload → length payload ≤ 383
+pub payload-bounded : (run : List ℕ) (sequence : ℕ) (payload : List ℕ) → frameOf run ≡ frames.good sequence payload → length payload ≤ packetRoom
 payload-bounded run sequence payload e = rw e at (frame-bounded run)

@@ -27,16 +27,16 @@ pub record Began (w : WatchList) (d : Display) : Type 0 where
   pub good : Good rowCount names
   pub is : d ≡ display.fresh (boardOf rowCount names)
 
-from-list : (fields : List ℕ) (watched : Watched) (d : Display) → watched ≡ asWatched (watchNames rowCount fields) → watched .answer ≡ Accepted
+from-list : (fields : List ℕ) (watched : Watched) (d : Display) → watched ≡ asWatched rowCount (watchNames rowCount fields) → watched .answer ≡ Accepted
     → d ≡ display.fresh (watched .board) → Began (as-bytes fields) d
 from-list fields watched d told accepted started = cases (watchNames rowCount fields) refl
   where
     cases : (o : Option (List (List ℕ))) → watchNames rowCount fields ≡ o → Began (as-bytes fields) d
     cases none e =
-        let refused = sym accepted ∙ ap (λ (w : Watched). w .answer) (told ∙ ap asWatched e) in
+        let refused = sym accepted ∙ ap (λ (w : Watched). w .answer) (told ∙ ap (asWatched rowCount) e) in
         impossible cc
     cases (some names) e =
-        let board-is = ap (λ (w : Watched). w .board) (told ∙ ap asWatched e) in
+        let board-is = ap (λ (w : Watched). w .board) (told ∙ ap (asWatched rowCount) e) in
         record { names = names; listed = e; good = list-good fields names e; is = started ∙ ap display.fresh board-is }
 
 -- one name more, on the board of those before it
@@ -44,10 +44,10 @@ record Joined (names : List (List ℕ)) (name : List ℕ) (board : Board) : Type
   good : Good rowCount (names ++ (name ∷ []))
   is : board ≡ boardOf rowCount (names ++ (name ∷ []))
 
-joined : (names : List (List ℕ)) (name : List ℕ) (board : Board) (watched : Watched) → Good rowCount names → board ≡ boardOf rowCount names → watched ≡ watchBoard board name
+joined : (names : List (List ℕ)) (name : List ℕ) (board : Board) (watched : Watched) → Good rowCount names → board ≡ boardOf rowCount names → watched ≡ watchBoard rowCount board name
     → watched .answer ≡ Accepted → Joined names name (watched .board)
 joined names name board watched good board-is told accepted =
-    let is : watched ≡ watchBoard (boardOf rowCount names) name = told ∙ ap (λ (b : Board). watchBoard b name) board-is in
+    let is : watched ≡ watchBoard rowCount (boardOf rowCount names) name = told ∙ ap (λ (b : Board). watchBoard rowCount b name) board-is in
     let joins = accepted-joins names name good (ap (λ (w : Watched). w .answer) (sym is) ∙ accepted) in
     record {
       good = good-more names name good joins;
@@ -65,7 +65,7 @@ began (one-by-one ns) d (no-names made started) =
 began (one-by-one ns) d (one-more {names = names} {name = name} {watched = watched} {d = d₀} before watches accepted started) =
     let so-far = began (one-by-one names) d₀ before in
     let same = some-names (so-far .listed) in
-    let told : watched ≡ watchBoard (d₀ .board) name = rw (watches .input-lent .holds) at (watches .learnt) in
+    let told : watched ≡ watchBoard rowCount (d₀ .board) name = rw (watches .input-lent .holds) at (watches .learnt) in
     let board-is : d₀ .board ≡ boardOf rowCount names = ap (λ (x : Display). x .board) (so-far .is) ∙ ap (boardOf rowCount) same in
     let j = joined names name (d₀ .board) watched (rw same at (so-far .good)) board-is told accepted in
     record { names = names ++ (name ∷ []); listed = refl; good = j .good; is = started ∙ ap display.fresh (j .is) }
@@ -73,8 +73,8 @@ began (one-by-one ns) d (one-more {names = names} {name = name} {watched = watch
 -- THEOREM. Every call of `board::watch_list` with the fields of a good list of names is accepted, with the board of the names.
 pub good-list-accepted : (names : List (List ℕ)) → Good rowCount names → (watched : Watched) → Lists (fieldsOf names) watched → watched ≡ acceptedWith (boardOf rowCount names)
 good-list-accepted names good watched lists =
-    let told : watched ≡ asWatched (watchNames rowCount (fieldsOf names)) = rw (lists .input-lent .holds) at (lists .learnt) in
-    told ∙ ap asWatched (good-listed names good)
+    let told : watched ≡ asWatched rowCount (watchNames rowCount (fieldsOf names)) = rw (lists .input-lent .holds) at (lists .learnt) in
+    told ∙ ap (asWatched rowCount) (good-listed names good)
 
 -- THEOREM. Every call of `board::watch` with a name that makes a good list with those before it is accepted, with the board of all of them.
 pub good-name-accepted : (names : List (List ℕ)) (name : List ℕ) (d : Display) → Begins (one-by-one names) d → Good rowCount (names ++ (name ∷ []))
@@ -82,14 +82,14 @@ pub good-name-accepted : (names : List (List ℕ)) (name : List ℕ) (d : Displa
 good-name-accepted names name d begins good watched watches =
     let b = began (one-by-one names) d begins in
     let same = some-names (b .listed) in
-    let told : watched ≡ watchBoard (d .board) name = rw (watches .input-lent .holds) at (watches .learnt) in
+    let told : watched ≡ watchBoard rowCount (d .board) name = rw (watches .input-lent .holds) at (watches .learnt) in
     let board-is : d .board ≡ boardOf rowCount names = ap (λ (x : Display). x .board) (b .is) ∙ ap (boardOf rowCount) same in
-    told ∙ ap (λ (x : Board). watchBoard x name) board-is ∙ watch-more names name (rw same at (b .good)) (may-join name [] names good)
+    told ∙ ap (λ (x : Board). watchBoard rowCount x name) board-is ∙ watch-more names name (rw same at (b .good)) (may-join name [] names good)
 
 -- THEOREM. From every list that is accepted there is a fresh start.
 pub accepted-begins : (fields : List ℕ) (names : List (List ℕ)) → watchNames rowCount fields ≡ some names → Begins (as-bytes fields) (display.fresh (boardOf rowCount names))
 accepted-begins fields names e =
-    from-bytes (in-call tt (ap asWatched (sym e))) refl refl
+    from-bytes (in-call tt (ap (asWatched rowCount) (sym e))) refl refl
 
 -- THEOREM. From every good list of names there is a fresh start, by the bytes of its fields.
 pub good-begins : (names : List (List ℕ)) → Good rowCount names → Begins (as-bytes (fieldsOf names)) (display.fresh (boardOf rowCount names))

@@ -17,7 +17,7 @@ use Rattle.ledger.specs.Frames.{Frame, taken, frameOf}
 use Rattle.ledger.specs.Answers as answers
 use Rattle.ledger.specs.Answers.{Call, Given, Answer}
 use Rattle.ledger.specs.Calls as calls
-use Rattle.ledger.specs.Calls.{Effect, answerTo, repeated, closed, effectOf, withRun, step}
+use Rattle.ledger.specs.Calls.{Effect, answerTo, repeated, closed, effectOf, withRun, step, replyRoom, packetRoom}
 use Rattle.ledger.specs.Shown.{asAnswer, asLeft}
 use Rattle.ledger.specs.History.{Handed, as-reply, as-packet, handedAs, handedLeft}
 use Rattle.ledger.proofs.FrameLaws.{payload-bounded}
@@ -36,7 +36,7 @@ handedIn (answers.took n answer reply packet) = handedBy answer
 handedIn answers.ticked = []
 
 -- a frame that was closed, with buffers that have room
-module _ (names : List (List ℕ)) (l : Ledger) (reply packet : List ℕ) (reply-room : 9 ≤ length reply) (packet-room : 383 ≤ length packet) where
+module _ (names : List (List ℕ)) (l : Ledger) (reply packet : List ℕ) (reply-room : replyRoom ≤ length reply) (packet-room : packetRoom ≤ length packet) where
   abbrev Handed-out : Effect → Type 0
   Handed-out e = handedAs (asAnswer names (e .answer)) (putAt reply 0 (e .reply)) (putAt packet 0 (e .packet)) ≡ handedBy (e .answer)
 
@@ -44,7 +44,7 @@ module _ (names : List (List ℕ)) (l : Ledger) (reply packet : List ℕ) (reply
   unfolding acknowledgement
   reply-stands sequence = let fits = acknowledgement-fits sequence in put-first reply (answerTo sequence) (omega (arith, fits))
 
-  good-handed : (sequence : ℕ) (payload : List ℕ) → length payload ≤ 383 → Handed-out (closed l (frames.good sequence payload))
+  good-handed : (sequence : ℕ) (payload : List ℕ) → length payload ≤ packetRoom → Handed-out (closed l (frames.good sequence payload))
   good-handed sequence payload few = by-last (repeated (l .line .sequence) sequence)
     where
       by-last : (t : Bool) → Handed-out (cond t (calls.repeatedFrame l sequence) (calls.newFrame l sequence payload))
@@ -53,7 +53,7 @@ module _ (names : List (List ℕ)) (l : Ledger) (reply packet : List ℕ) (reply
           ap₂ (λ (r p : List ℕ). as-reply r ∷ as-packet p ∷ []) (reply-stands sequence)
           (put-first packet payload (omega arith))
 
-  frame-handed : (f : Frame) → ((sequence : ℕ) (payload : List ℕ) → f ≡ frames.good sequence payload → length payload ≤ 383) → Handed-out (closed l f)
+  frame-handed : (f : Frame) → ((sequence : ℕ) (payload : List ℕ) → f ≡ frames.good sequence payload → length payload ≤ packetRoom) → Handed-out (closed l f)
   frame-handed (frames.refused n) few = refl
   frame-handed (frames.acknowledgement sequence) few = refl
   frame-handed (frames.good sequence payload) few = good-handed sequence payload (few sequence payload refl)

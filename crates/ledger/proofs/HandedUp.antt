@@ -16,14 +16,14 @@ use Rattle.ledger.specs.Answers.{WatchList, namesIn, Call, Answer}
 use Rattle.ledger.specs.Calls as calls
 use Rattle.ledger.specs.Calls.{repeated, closed, withRun}
 use Rattle.ledger.specs.Shown.{Left}
-use Rattle.ledger.specs.History.{Event, byte, minute, history, among, packetIn, packetsHanded, allHanded}
+use Rattle.ledger.specs.History.{Event, byte, minute, history, Handed, among, packetIn, packetsHanded, allHanded}
 use Rattle.ledger.specs.ClosedFrames.{behindTurn, marksFrom}
 use Rattle.ledger.specs.BoardEvents.{BoardEvent, behindFrame, boardEventsOf, boardEventsIn, packetsIn}
 use Rattle.ledger.proofs.LineLaws.{run-kept, repeats-last, read-sequence}
 use Rattle.ledger.proofs.Chain.{Begins, Chain}
 use Rattle.ledger.proofs.EveryList.{agreeing}
 use Rattle.ledger.proofs.ByEvents.{toldBy, atTurn, happens, toldInHistory}
-use Rattle.ledger.proofs.ToldLaws.{handedWith, handed-append, among-append, all-handed}
+use Rattle.ledger.proofs.ToldLaws.{handedWith, handed-append, among-append, told-handed, all-handed}
 use Rattle.ledger.proofs.SameHistory.{told-by}
 
 -- the packets that are told of
@@ -37,11 +37,7 @@ told-up xs ys = ap packetsHanded (handed-append xs ys) ∙ among-append packetIn
 frame-up : (l : Ledger) (f : Frame) (rest : Option ℕ → List BoardEvent)
     → packetsIn (behindFrame f (l .line .sequence) rest) ≡ toldUp (toldBy (closed l f .answer)) ++ packetsIn (rest (closed l f .ledger .line .sequence))
 unfolding packetsIn handedWith among
-frame-up l (frames.refused n) rest = by-number (eqb n shortOutput)
-  where
-    by-number : (t : Bool) → packetsIn (rest (l .line .sequence)) ≡ toldUp (cond t [] (answers.refused n ∷ [])) ++ packetsIn (rest (l .line .sequence))
-    by-number true = refl
-    by-number false = refl
+frame-up l (frames.refused n) rest = ap (λ (hs : List Handed). packetsHanded hs ++ packetsIn (rest (l .line .sequence))) (told-handed (answers.refused n))
 frame-up l (frames.acknowledgement sequence) rest = refl
 frame-up l (frames.good sequence payload) rest = by-last (repeated (l .line .sequence) sequence) refl
   where

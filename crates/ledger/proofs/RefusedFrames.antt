@@ -19,7 +19,7 @@ use Rattle.ledger.specs.Frames as frames
 use Rattle.ledger.specs.Frames.{Frame, Taken, taken, frameOf}
 use Rattle.ledger.specs.Answers.{WatchList, namesIn, Call, piece}
 use Rattle.ledger.specs.Calls as calls
-use Rattle.ledger.specs.Calls.{Effect, repeated, closed, effectOf, withRun, pieceStep, step, after}
+use Rattle.ledger.specs.Calls.{Effect, repeated, closed, effectOf, withRun, pieceStep, step, after, replyRoom, packetRoom}
 use Rattle.ledger.specs.Shown.{asCounts, asEntry, asAnswer, Left, took, asLeft}
 use Rattle.ledger.specs.History.{Event, byte, history}
 use Rattle.ledger.specs.ClosedFrames.{Closes}
@@ -80,7 +80,7 @@ pub record OffTheLine (n : ℕ) (events further : List Event) (reply packet : Li
   pub counts : behind .link .counts ≡ countOf (event.Refused n) (before .link .counts)
 
 module _ (names : List (List ℕ)) (cs : List Call) (left : List Left) (end : Display) (a : Agreeing names cs left end)
-    (bytes reply packet : List ℕ) (r : 9 ≤ length reply) (p : 383 ≤ length packet) (n count : ℕ) (reply₁ packet₁ : List ℕ) (end₁ : Display)
+    (bytes reply packet : List ℕ) (r : replyRoom ≤ length reply) (p : packetRoom ≤ length packet) (n count : ℕ) (reply₁ packet₁ : List ℕ) (end₁ : Display)
     (next : Chain end (piece bytes reply packet ∷ []) (took count (Refused n) reply₁ packet₁ ∷ []) end₁) where
   abbrev l : Ledger
   l = after (start names) cs
@@ -137,7 +137,7 @@ module _ (names : List (List ℕ)) (cs : List Call) (left : List Left) (end : Di
 -- the line and counted under that number, and the buffers, the board and the last sequence are as they were.
 pub refused-frame : (names : List (List ℕ)) (w : WatchList) → namesIn w ≡ some names → (d : Display) → Begins w d
     → (cs : List Call) (left : List Left) (end : Display) → Chain d cs left end
-    → (bytes reply packet : List ℕ) → 9 ≤ length reply → 383 ≤ length packet → (n count : ℕ) (reply₁ packet₁ : List ℕ) (end₁ : Display)
+    → (bytes reply packet : List ℕ) → replyRoom ≤ length reply → packetRoom ≤ length packet → (n count : ℕ) (reply₁ packet₁ : List ℕ) (end₁ : Display)
     → Chain end (piece bytes reply packet ∷ []) (took count (Refused n) reply₁ packet₁ ∷ []) end₁
     → OffTheLine n (history cs left) (map byte (take count bytes)) reply packet end reply₁ packet₁ end₁
 refused-frame names w listed d begins cs left end chain bytes reply packet r p n count reply₁ packet₁ end₁ next =

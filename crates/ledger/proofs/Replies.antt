@@ -24,13 +24,13 @@ use Rattle.ledger.specs.Answers.{WatchList, namesIn, Call, Answer}
 use Rattle.ledger.specs.Calls as calls
 use Rattle.ledger.specs.Calls.{answerTo, repeated, closed, withRun}
 use Rattle.ledger.specs.Shown.{Left}
-use Rattle.ledger.specs.History.{Event, byte, minute, history, among, replyIn, repliesHanded, allHanded}
+use Rattle.ledger.specs.History.{Event, byte, minute, history, Handed, among, replyIn, repliesHanded, allHanded}
 use Rattle.ledger.specs.ClosedFrames.{behindTurn, marksFrom, framesOf, framesIn, dataSequences}
 use Rattle.ledger.proofs.LineLaws.{run-kept}
 use Rattle.ledger.proofs.Chain.{Begins, Chain}
 use Rattle.ledger.proofs.EveryList.{agreeing}
 use Rattle.ledger.proofs.ByEvents.{toldBy, atTurn, happens, toldInHistory}
-use Rattle.ledger.proofs.ToldLaws.{handedWith, handed-append, among-append, all-handed}
+use Rattle.ledger.proofs.ToldLaws.{handedWith, handed-append, among-append, told-handed, all-handed}
 use Rattle.ledger.proofs.SameHistory.{told-by}
 
 -- the replies that are told of
@@ -43,11 +43,7 @@ told-joined xs ys = ap repliesHanded (handed-append xs ys) ∙ among-append repl
 frame-replied : (l : Ledger) (f : Frame) (fs : List Frame)
     → map answerTo (dataSequences (f ∷ fs)) ≡ repliesTold (toldBy (closed l f .answer)) ++ map answerTo (dataSequences fs)
 unfolding dataSequences handedWith among
-frame-replied l (frames.refused n) fs = by-number (eqb n shortOutput)
-  where
-    by-number : (t : Bool) → map answerTo (dataSequences fs) ≡ repliesTold (cond t [] (answers.refused n ∷ [])) ++ map answerTo (dataSequences fs)
-    by-number true = refl
-    by-number false = refl
+frame-replied l (frames.refused n) fs = ap (λ (hs : List Handed). repliesHanded hs ++ map answerTo (dataSequences fs)) (told-handed (answers.refused n))
 frame-replied l (frames.acknowledgement sequence) fs = refl
 frame-replied l (frames.good sequence payload) fs = by-last (repeated (l .line .sequence) sequence)
   where

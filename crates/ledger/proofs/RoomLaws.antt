@@ -13,33 +13,33 @@ use Rattle.display.specs.declared.Display.{Display}
 use Rattle.ledger.specs.Ledger.{Ledger}
 use Rattle.ledger.specs.Frames.{taken}
 use Rattle.ledger.specs.Answers.{piece}
-use Rattle.ledger.specs.Calls.{Step, pieceStep, shortStep, step}
+use Rattle.ledger.specs.Calls.{Step, pieceStep, shortStep, step, replyRoom, packetRoom}
 
 -- what holds of a call with a short buffer, and of one with room, holds of every call
 pub by-room : (P : Step → Type 0) (l : Ledger) (bytes reply packet : List ℕ)
-    → ((length reply < 9) ⊎ (length packet < 383) → P (shortStep l reply packet))
-    → (9 ≤ length reply → 383 ≤ length packet → P (pieceStep l (taken (l .line .run) bytes 0) reply packet))
+    → ((length reply < replyRoom) ⊎ (length packet < packetRoom) → P (shortStep l reply packet))
+    → (replyRoom ≤ length reply → packetRoom ≤ length packet → P (pieceStep l (taken (l .line .run) bytes 0) reply packet))
     → P (step l (piece bytes reply packet))
 unfolding step
-by-room P l bytes reply packet short room = by-tests (ltb (length reply) 9) (ltb (length packet) 383) refl refl
+by-room P l bytes reply packet short room = by-tests (ltb (length reply) replyRoom) (ltb (length packet) packetRoom) refl refl
   where
-    by-tests : (t u : Bool) → ltb (length reply) 9 ≡ t → ltb (length packet) 383 ≡ u
+    by-tests : (t u : Bool) → ltb (length reply) replyRoom ≡ t → ltb (length packet) packetRoom ≡ u
         → P (cond (t || u) (shortStep l reply packet) (pieceStep l (taken (l .line .run) bytes 0) reply packet))
-    by-tests true u e f = short (inl (ltb-true (length reply) 9 e))
-    by-tests false true e f = short (inr (ltb-true (length packet) 383 f))
-    by-tests false false e f = room (ltb-false (length reply) 9 e) (ltb-false (length packet) 383 f)
+    by-tests true u e f = short (inl (ltb-true (length reply) replyRoom e))
+    by-tests false true e f = short (inr (ltb-true (length packet) packetRoom f))
+    by-tests false false e f = room (ltb-false (length reply) replyRoom e) (ltb-false (length packet) packetRoom f)
 
-pub with-room : (l : Ledger) (bytes reply packet : List ℕ) → 9 ≤ length reply → 383 ≤ length packet
+pub with-room : (l : Ledger) (bytes reply packet : List ℕ) → replyRoom ≤ length reply → packetRoom ≤ length packet
     → step l (piece bytes reply packet) ≡ pieceStep l (taken (l .line .run) bytes 0) reply packet
 unfolding step
-with-room l bytes reply packet r p = rw (le-ltb (length reply) 9 r, le-ltb (length packet) 383 p)
+with-room l bytes reply packet r p = rw (le-ltb (length reply) replyRoom r, le-ltb (length packet) packetRoom p)
 
 -- the link refuses the same calls
-pub call-short : (d : Display) (bytes reply packet : List ℕ) → (length reply < 9) ⊎ (length packet < 383)
+pub call-short : (d : Display) (bytes reply packet : List ℕ) → (length reply < replyRoom) ⊎ (length packet < packetRoom)
     → receiveOf (d .link) bytes (length reply) (length packet) ≡ shortCall (d .link)
 call-short d bytes reply packet (inl few) = short-reply (d .link) bytes (length reply) (length packet) few
-call-short d bytes reply packet (inr few) = by-reply (ltb (length reply) 9) refl
+call-short d bytes reply packet (inr few) = by-reply (ltb (length reply) replyRoom) refl
   where
-    by-reply : (t : Bool) → ltb (length reply) 9 ≡ t → receiveOf (d .link) bytes (length reply) (length packet) ≡ shortCall (d .link)
-    by-reply true e = short-reply (d .link) bytes (length reply) (length packet) (ltb-true (length reply) 9 e)
-    by-reply false e = short-packet (d .link) bytes (length reply) (length packet) (ltb-false (length reply) 9 e) few
+    by-reply : (t : Bool) → ltb (length reply) replyRoom ≡ t → receiveOf (d .link) bytes (length reply) (length packet) ≡ shortCall (d .link)
+    by-reply true e = short-reply (d .link) bytes (length reply) (length packet) (ltb-true (length reply) replyRoom e)
+    by-reply false e = short-packet (d .link) bytes (length reply) (length packet) (ltb-false (length reply) replyRoom e) few

@@ -12,6 +12,7 @@ use Rattle.display.specs.declared.Display.{Display}
 use Rattle.display.specs.declared.Received.{Received}
 use Rattle.ledger.specs.Answers.{piece}
 use Rattle.ledger.specs.Shown.{Left, took}
+use Rattle.ledger.specs.Calls.{replyRoom, packetRoom}
 use Rattle.ledger.proofs.Chain.{Chain, done, receives, received}
 use Rattle.ledger.proofs.RoomLaws.{call-short}
 
@@ -23,7 +24,7 @@ short-done d reply packet result reply₁ packet₁ does = rw (does .answers, do
 -- THEOREM. Whatever the display, a call that is lent a reply buffer of under 9 bytes or a packet buffer of under 383 is refused with 7, takes
 -- nothing, and leaves the display and both buffers as they were.
 pub short-buffer : (d d₁ : Display) (bytes reply packet : List ℕ) (left : Left) → Chain d (piece bytes reply packet ∷ []) (left ∷ []) d₁
-    → (length reply < 9) ⊎ (length packet < 383) → (left ≡ took 0 (Refused shortOutput) reply packet) × (d₁ ≡ d)
+    → (length reply < replyRoom) ⊎ (length packet < packetRoom) → (left ≡ took 0 (Refused shortOutput) reply packet) × (d₁ ≡ d)
 unfolding receivePiece
 short-buffer d d₁ bytes reply packet left (receives {reply₁ = reply₁} {packet₁ = packet₁} {result = result} r done) short =
     short-done d reply packet result reply₁ packet₁ (rw (call-short d bytes reply packet short) at (received r))

@@ -14,13 +14,14 @@ use Rattle.display.proofs.TakingLaws.{takes-some}
 use Rattle.ledger.specs.Answers.{WatchList, namesIn, Call, piece, tick}
 use Rattle.ledger.specs.Shown.{Left, took, ticked}
 use Rattle.ledger.specs.History.{Event, byte, minute, history, Part, cut, pause, eventsIn}
+use Rattle.ledger.specs.Calls.{replyRoom, packetRoom}
 use Rattle.ledger.proofs.Chain.{Begins, Receives, Ticks, Chain, done, receives, ticks, received, received-by}
 use Rattle.ledger.proofs.SameHistory.{Alike, same-history}
 
 -- THEOREM. Whatever the display, a call that is lent a reply buffer of at least 9 bytes and a packet buffer of at least 383 takes at most its
 -- piece, and some of a piece that has any byte.
 pub room-takes : {d : Display} {bytes reply packet reply₁ packet₁ : List ℕ} {result : Received} → Receives d bytes reply packet result reply₁ packet₁
-    → 9 ≤ length reply → 383 ≤ length packet → Takes bytes (result .taken)
+    → replyRoom ≤ length reply → packetRoom ≤ length packet → Takes bytes (result .taken)
 room-takes {d = d} {bytes = bytes} {reply = reply} {packet = packet} {reply₁ = reply₁} {packet₁ = packet₁} {result = result} r a b =
     takes-some d bytes (length reply) (length packet) reply packet reply₁ packet₁ result a b (received r)
 
@@ -79,8 +80,8 @@ offer : (parts : List Part) (n : ℕ) (bytes : List ℕ) → length bytes ≤ su
     → ((rest : List ℕ) → length rest ≤ n → (d₁ : Display) → Fed d₁ (cut rest ∷ parts)) → Fed d (cut bytes ∷ parts)
 offer parts n [] few d behind again = nothing-left parts d (behind d)
 offer parts n (b ∷ bs) few d behind again =
-    let first = received-by d (b ∷ bs) (replicate 9 0) (replicate 383 0) in
-    let result = receivePiece d (b ∷ bs) 9 383 .result in
+    let first = received-by d (b ∷ bs) (replicate replyRoom 0) (replicate packetRoom 0) in
+    let result = receivePiece d (b ∷ bs) replyRoom packetRoom .result in
     let takes = room-takes first (omega arith) (omega arith) in
     let fewer : length (drop (result .taken) (b ∷ bs)) ≤ n = omega (arith, length-drop (result .taken) (b ∷ bs), takes .some (omega arith)) in
     let rest = again (drop (result .taken) (b ∷ bs)) fewer (result .display) in

@@ -32,7 +32,7 @@ unfolding among
 among-append sort [] ys = refl
 among-append sort (x ∷ xs) ys = ap (λ (r : List (List ℕ)). sort x ++ r) (among-append sort xs ys) ∙ sym (append-assoc (sort x) (among sort xs) (among sort ys))
 
-told-handed : (a : Answer) → handedBy a ≡ handedWith (toldBy a)
+pub told-handed : (a : Answer) → handedBy a ≡ handedWith (toldBy a)
 unfolding handedWith
 told-handed answers.nothing = refl
 told-handed (answers.refused n) = by-number (eqb n shortOutput)

@@ -13,7 +13,7 @@ use Rattle.board.specs.Reading.{Verdict, readingOf}
 use Rattle.ledger.specs.Ledger.{Counts, Ledger, withLine, withEntries, nameOf, plusNew, plusAgain, plusHeard, plusUnread, plusRefused, updated, olderEntry}
 use Rattle.ledger.specs.Answers.{Call, piece, tick, Answer, nothing, refused, heard, again, new, Given, took, ticked}
 use Rattle.ledger.specs.Frames as frames
-use Rattle.ledger.specs.Frames.{Frame, Taken, taken, frameOf}
+use Rattle.ledger.specs.Frames.{Frame, Taken, taken, acknowledgementType, frameOf}
 
 -- what a frame does: the ledger after it, the answer, and the bytes put at the start of the reply and of the packet buffer
 pub record Effect : Type 0 where
@@ -47,7 +47,7 @@ heardFrame l sequence =
 
 -- a good data frame is answered by type 02, the same sequence, no payload
 abbrev pub answerTo : ℕ → List ℕ
-answerTo sequence = writing.frameOf 0x02 sequence []
+answerTo sequence = writing.frameOf acknowledgementType sequence []
 
 -- with the last sequence, not 0, it is repeated at once: again plus 1
 abbrev pub repeated : Option ℕ → ℕ → Bool
@@ -118,13 +118,20 @@ pieceStep l t reply packet =
       ledger = effect .ledger;
     }
 
+-- the least room of a reply and of a packet buffer
+abbrev pub replyRoom : ℕ
+replyRoom = 9
+
+abbrev pub packetRoom : ℕ
+packetRoom = 383
+
 -- short buffer: refusal 7, 0 taken, no change
 abbrev pub shortStep : Ledger → List ℕ → List ℕ → Step
 shortStep l reply packet = record { given = took 0 (refused shortOutput) reply packet; ledger = l }
 
 unfoldable pub step : Ledger → Call → Step
 step l (piece bytes reply packet) =
-    cond (ltb (length reply) 9 || ltb (length packet) 383) (shortStep l reply packet) (pieceStep l (taken (l .line .run) bytes 0) reply packet)
+    cond (ltb (length reply) replyRoom || ltb (length packet) packetRoom) (shortStep l reply packet) (pieceStep l (taken (l .line .run) bytes 0) reply packet)
 step l tick = record { given = ticked; ledger = afterTick l }
 
 -- the whole list of calls: all that is given, in order, and the ledger afterwards

@@ -50,12 +50,19 @@ pub data Frame : Type 0 where
   acknowledgement : ℕ → Frame
   good : ℕ → List ℕ → Frame
 
+-- type 01 is data, type 02 an acknowledgement
+abbrev pub dataType : ℕ
+dataType = 0x01
+
+abbrev pub acknowledgementType : ℕ
+acknowledgementType = 0x02
+
 -- a frame is unstuffed from the left and tested by 1 to 4, then by its type: 5 and 6
 abbrev pub byType : content.Read → Frame
 byType (content.refused n) = refused n
 byType (content.frame kind sequence payload) =
-    cond (eqb kind 0x01) (good sequence payload)
-    (cond (eqb kind 0x02) (cond (eqb (length payload) 0) (acknowledgement sequence) (refused loadedAcknowledgement)) (refused unknownType))
+    cond (eqb kind dataType) (good sequence payload)
+    (cond (eqb kind acknowledgementType) (cond (eqb (length payload) 0) (acknowledgement sequence) (refused loadedAcknowledgement)) (refused unknownType))
 
 unfoldable pub frameOf : List ℕ → Frame
 frameOf run = byType (readRun run)

@@ -40,12 +40,15 @@ pub record Ledger : Type 0 where
   pub line : Line
   pub hives : Hives
 
--- each part, and an entry's last update, is set in one place
+-- the setters: of each part, of the hives' entries, and of an entry's last update
 abbrev pub withLine : Ledger → Line → Ledger
 withLine l line = record { line = line; hives = l .hives }
 
+abbrev pub withHives : Ledger → Hives → Ledger
+withHives l hives = record { line = l .line; hives = hives }
+
 abbrev pub withEntries : Ledger → List Entry → Ledger
-withEntries l entries = record { line = l .line; hives = record { entries = entries } }
+withEntries l entries = withHives l (record { entries = entries })
 
 abbrev pub withLast : Entry → Option Update → Entry
 withLast entry last = record { name = entry .name; last = last }
@@ -116,7 +119,10 @@ pub data Row : Type 0 where
   current : ℤ → ℕ → Row
   silent : Row
 
+abbrev pub silentFrom : ℕ
+silentFrom = 30
+
 -- under 30 ticks a name is current, with them as age; from 30 silent; without update never
 abbrev pub rowOf : Option Update → Row
 rowOf none = never
-rowOf (some update) = cond (ltb (update .ticks) 30) (current (update .value) (update .ticks)) silent
+rowOf (some update) = cond (ltb (update .ticks) silentFrom) (current (update .value) (update .ticks)) silent

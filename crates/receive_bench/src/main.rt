@@ -15,6 +15,8 @@ use libc::STDIN_FILENO;
 use link::receiver::REPLY_ROOM;
 ghost use Prim.Native.Nat.{_≤_, min};
 ghost use lib.ListN.{length};
+ghost use Rattle.frame.specs.Content.{payloadMax};
+ghost use Rattle.link.specs.Closing.{replyRoom};
 
 // The two numbers before the stream.
 const SIZE_END: usize = 4;
@@ -40,7 +42,7 @@ fn feed_input(input: &[u8]) {
 fn feed_rounds(stream: &[u8], size: usize, rounds: usize) -> Display {
     let mut reply = [0u8; REPLY_ROOM];
     let mut packet = [0u8; PAYLOAD_MAX];
-    let mut next = display_cases::hive();
+    let mut next = display_cases::fresh_display();
     let mut i: usize = 0;
     while i < rounds {
         next = feed(next, stream, size, &mut reply, &mut packet);
@@ -57,7 +59,7 @@ fn feed(
     reply: &mut [u8],
     packet: &mut [u8],
 ) -> Display
-    requires { ⌜ (9 ≤ length (now reply)) × (383 ≤ length (now packet)) ⌝ }
+    requires { ⌜ (replyRoom ≤ length (now reply)) × (payloadMax ≤ length (now packet)) ⌝ }
 {
     let mut next = display;
     let mut at: usize = 0;
@@ -81,7 +83,7 @@ fn piece_length(size: usize, left: usize) -> usize
 
 // Calls the receiver until the piece is taken.
 fn feed_piece(display: Display, piece: &[u8], reply: &mut [u8], packet: &mut [u8]) -> Display
-    requires { ⌜ (9 ≤ length (now reply)) × (383 ≤ length (now packet)) ⌝ }
+    requires { ⌜ (replyRoom ≤ length (now reply)) × (payloadMax ≤ length (now packet)) ⌝ }
 {
     let mut next = display;
     let mut at: usize = 0;

@@ -21,8 +21,8 @@ use Rattle.rows.specs.declared.State.the-variants.{Current}
 abbrev rowsShowing : List Entry → ℕ → List Row
 rowsShowing es k = map rowShowing es ++ replicate k (freshRow [])
 
-abbrev withRows : List Row → Board
-withRows rows = record { rows = rows }
+abbrev boardWith : List Row → Board
+boardWith rows = record { rows = rows }
 
 -- names that were accepted fit, and then the rows have them
 abbrev pub Named : List Entry → Type 0
@@ -49,7 +49,7 @@ fresh-rows [] (suc k) = ap (λ (l : List Row). freshRow [] ∷ l) (fresh-rows []
 fresh-rows (name ∷ names) k = ap (λ (l : List Row). freshRow name ∷ l) (fresh-rows names k)
 
 pub fresh-showing : (names : List (List ℕ)) → boardOf rowCount names ≡ boardShowing rowCount (map freshEntry names)
-fresh-showing names = rw (length-map names freshEntry) (ap withRows (fresh-rows names (rowCount - length names)))
+fresh-showing names = rw (length-map names freshEntry) (ap boardWith (fresh-rows names (rowCount - length names)))
 
 -- a tick
 tick-rows : (es : List Entry) (k : ℕ) → map tickRow (rowsShowing es k) ≡ rowsShowing (map tickEntry es) k
@@ -58,7 +58,7 @@ tick-rows [] (suc k) = ap (λ (l : List Row). freshRow [] ∷ l) (tick-rows [] k
 tick-rows (e ∷ es) k = ap (λ (l : List Row). rowShowing (tickEntry e) ∷ l) (tick-rows es k)
 
 pub tick-showing : (es : List Entry) → tickBoard (boardShowing rowCount es) ≡ boardShowing rowCount (map tickEntry es)
-tick-showing es = rw (length-map es tickEntry) (ap withRows (tick-rows es (rowCount - length es)))
+tick-showing es = rw (length-map es tickEntry) (ap boardWith (tick-rows es (rowCount - length es)))
 
 -- names are counted upwards
 place-from : (a place : ℕ) (name : List ℕ) (names : List (List ℕ)) → placeFrom a name names ≡ some place → a ≤ place
@@ -118,4 +118,4 @@ pub update-showing : (es : List Entry) (name : List ℕ) (place : ℕ) (value : 
 update-showing es [] place value h some-bytes e = absurd (omega arith)
 update-showing es (byte ∷ bytes) place value h some-bytes e =
     let from : place ≡ 0 + place = omega arith in
-    rw (update-length byte bytes value es) (ap withRows (update-rows byte bytes value es (rowCount - length es) 0 place h (rw from at e)))
+    rw (update-length byte bytes value es) (ap boardWith (update-rows byte bytes value es (rowCount - length es) 0 place h (rw from at e)))

@@ -53,8 +53,12 @@ tickState Silent = Silent
 abbrev pub tickRow : Row → Row
 tickRow row = withState (tickState (row .state)) row
 
+-- the board with other rows
+abbrev pub withRows : Board → List Row → Board
+withRows board rows = record { rows = rows }
+
 abbrev pub tickBoard : Board → Board
-tickBoard board = record { rows = map tickRow (board .rows) }
+tickBoard board = withRows board (map tickRow (board .rows))
 
 -- 01, The board: an accepted update makes it current with age 0
 abbrev pub updateRow : ℤ → Row → Row
@@ -72,11 +76,11 @@ changeAt f (suc place) (row ∷ rows) = row ∷ changeAt f place rows
 
 -- the board with another row at place
 abbrev pub putRow : ℕ → Row → Board → Board
-putRow place row board = record { rows = changeAt (λ (old : Row). row) place (board .rows) }
+putRow place row board = withRows board (changeAt (λ (old : Row). row) place (board .rows))
 
 -- the board with the row at place updated
 abbrev pub updateBoard : ℕ → ℤ → Board → Board
-updateBoard place value board = record { rows = changeAt (updateRow value) place (board .rows) }
+updateBoard place value board = withRows board (changeAt (updateRow value) place (board .rows))
 
 -- 01, The board: the list's names first and in its order; the rows behind them, up to so many in all, are unused
 abbrev pub boardOf : ℕ → List (List ℕ) → Board

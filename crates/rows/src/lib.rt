@@ -3,7 +3,7 @@ ghost use mathlib.Core.Path.{_≡_};
 ghost use mathlib.Core.List.{[]};
 ghost use Rattle.slices.specs.Same.{sameBytes};
 ghost use Rattle.rows.specs.Names.{placeOf};
-ghost use Rattle.rows.specs.Rows.{rowCount, rowName, rowNames, tickState, tickRow, tickBoard, withState, freshRow, boardOf, updateRow, updateBoard, putRow, asPlace};
+ghost use Rattle.rows.specs.Rows.{rowCount, rowName, rowNames, tickState, tickRow, tickBoard, withState, freshRow, boardOf, updateBoard, putRow, asPlace};
 
 // How many rows the board has.
 pub const ROWS: usize = 16;

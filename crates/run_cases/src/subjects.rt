@@ -28,7 +28,7 @@ fn fresh(subject: Subject) -> State {
     State {
         subject,
         transfer: transfer_cases::first(),
-        display: display_cases::hive(),
+        display: display_cases::fresh_display(),
     }
 }
 

@@ -3,6 +3,9 @@ use crate::report;
 use cases::line;
 use cases::print;
 use transfer::Transfer;
+ghost use mathlib.Core.Path.{_≡_};
+ghost use mathlib.Core.List.{[], _∷_};
+ghost use Rattle.transfer.specs.Transfer.{startOf};
 
 // The longest lent buffer.
 pub const FILE_MAX: usize = 514;
@@ -13,7 +16,10 @@ pub struct Receiving {
     room: usize,
 }
 
-pub fn first() -> Receiving {
+// The transfer of the location loc, with an empty buffer.
+pub fn first() -> Receiving
+    ensures { λ r. ⌜ (r .transfer ≡ startOf (0x6c ∷ 0x6f ∷ 0x63 ∷ []) .transfer) × (r .room ≡ 0) ⌝ }
+{
     let outcome = transfer::start(b"loc");
     let transfer = outcome.transfer;
     Receiving { transfer, room: 0 }

@@ -7,6 +7,7 @@ use Prim.Native.Nat.{ℕ, _+_, _-_, _≤_}
 use native.Mathlib.Omega.{arith}
 use borrow.Author.Needs.{needs}
 use lib.ListN.{length, length-take, take, drop, length-drop}
+use Rattle.rows.specs.Rows.{rowCount}
 use Rattle.board.specs.declared.list.Watched.{Watched}
 use Rattle.board.specs.WatchList.{watchBoard}
 use Rattle.board.specs.ListSteps.{fieldOf}
@@ -53,7 +54,7 @@ room c =
 -- the name in it was asked to be watched
 watched : (c : tie.After-watch Inv-loop μ-loop)
     → c .watch .result
-    ≡ watchBoard (loop-of (size-of c) .loop .board) (nameAt (list-at (loop-of (size-of c))) (loop-of (size-of c) .loop .at) (size-of c .size .given .0 .0))
+    ≡ watchBoard rowCount (loop-of (size-of c) .loop .board) (nameAt (list-at (loop-of (size-of c))) (loop-of (size-of c) .loop .at) (size-of c .size .given .0 .0))
 watched c =
     let size = size-of c .size .given .0 .0 in
     let loop = loop-of (size-of c) in

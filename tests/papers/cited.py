@@ -40,7 +40,7 @@ BETWEEN = re.compile(r"(\s*\([^()`]*\))?(\s*[,:]\s*((and|or)\s+)?|\s+(and|or)\s+
 
 def place_of(repository, before):
     """What the text right before a name cites, as a test of names; None if it cites no place."""
-    if found := re.search(r"\b(code|mutants?) of (\w+)\s+$", before):
+    if found := re.search(r"\b(code|mutants?)\s+of\s+(\w+)\s+$", before):
         has = repository.has_in_code if found[1] == "code" else repository.has_mutant
         return lambda name: found[2] in repository.crates and has(found[2], name)
     if found := re.search(r"([\w/.+-]+/[\w.+-]*)`?([,:]?)\s+$", before):

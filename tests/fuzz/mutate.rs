@@ -15,7 +15,7 @@ struct Field {
     value: Vec<u8>,
 }
 
-/// The bytes as fields, whatever they are: another tag and a cut field are mended.
+/// The bytes as fields, whatever they are: another tag and a cut field are put right.
 fn fields(mut bytes: &[u8]) -> Vec<Field> {
     let mut fields = Vec::new();
     while let [tag, high, low, rest @ ..] = bytes {

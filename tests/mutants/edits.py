@@ -92,7 +92,7 @@ def operators(line: str) -> Iterator[str]:
 
 
 def constants(line: str, lines: list[str]) -> Iterator[str]:
-    """A number one more, another letter, a truth value turned, another name or variant."""
+    """A number one more, another letter, true for false, another name or variant."""
     if line.strip().startswith(("name:", "pub ")) and "const" not in line:
         return
     for found in NUMBER.finditer(line):
@@ -131,7 +131,7 @@ def other_variants(line: str, lines: list[str]) -> Iterator[str]:
 
 
 def swapped(line: str) -> Iterator[str]:
-    """Two arguments of a call that stand side by side, changed over."""
+    """Two arguments of a call that stand side by side, swapped."""
     for found in CALL.finditer(line):
         arguments = [part.strip() for part in split_arguments(found.group(1))]
         for i in range(len(arguments) - 1):

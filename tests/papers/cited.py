@@ -8,14 +8,16 @@ A citation is a place and, right behind it in backticks, names that stand there:
     frame/Stuffing `meaning`, `taken`     definitions, fields or cases in crates/frame/specs/Stuffing.antt
     ledger/proofs/EveryList `every-list`  theorems in crates/ledger/proofs/EveryList.antt
     packet/src/items.rt `read_items`      functions, types or constants in that file; words of a C or Rust file
-    code of frame `put_byte`              the same, in any source file of the crate; also "mutant of frame"
+    code of frame `put_byte`              the same, in any source file of the crate
+    mutant of frame `put_byte`            the same, and a function or constant of the crate in docs/mutants.txt
     examples/histories `repeated`         files in that folder, with or without their ending
     link `closing_flag_lost`              a must-fail edit of the crate, or a written one of tests/mutants
+    run board_cases, ash_cases            subjects with a line `= board`, `= ash` in crates/run_cases/stdin
 
 Between the names of one place only a comma, a colon, "and", "or" and a remark in brackets may stand. A name
 without a place has to be a crate, a path, a folder with its slash, a `make` target, a name of the C header,
 a path crate::module::name of the code, or one of WORDS. In "`new` for `old`" the old code has to stand in
-the sources. Rows of CLAIMS.md have ids, each once. Whatever cannot be placed is a failure.
+the sources, word for word. Rows of CLAIMS.md have ids, each once. Whatever cannot be placed is a failure.
 """
 import re
 import sys
@@ -38,8 +40,9 @@ BETWEEN = re.compile(r"(\s*\([^()`]*\))?(\s*[,:]\s*((and|or)\s+)?|\s+(and|or)\s+
 
 def place_of(repository, before):
     """What the text right before a name cites, as a test of names; None if it cites no place."""
-    if found := re.search(r"\b(?:code|mutants?) of (\w+)\s+$", before):
-        return lambda name: found[1] in repository.crates and repository.has_in_code(found[1], name)
+    if found := re.search(r"\b(code|mutants?)\s+of\s+(\w+)\s+$", before):
+        has = repository.has_in_code if found[1] == "code" else repository.has_mutant
+        return lambda name: found[2] in repository.crates and has(found[2], name)
     if found := re.search(r"([\w/.+-]+/[\w.+-]*)`?([,:]?)\s+$", before):
         path = repository.proved(found[1]) or repository.path(found[1])
         if path and not (path.is_dir() and found[2]):
@@ -120,7 +123,11 @@ def tokens_in(repository, page, text):
             yield found.start(), f"{found[0]} is not in the code"
     for found in re.finditer(r"\b[a-z]+_(cases|bench)\b", text):
         if found[0] not in repository.crates:
-            yield found.start(), f"there is no program {found[0]}"
+            yield found.start(), f"there is no crate {found[0]}"
+    for found in re.finditer(r"\brun (\w+_cases(?:, \w+_cases)*)", text):
+        for crate in found[1].split(", "):
+            if crate not in repository.runs:
+                yield found.start(), f"run_cases runs nothing of {crate}"
 
 
 def ids_in(text):

@@ -21,6 +21,11 @@ def names_of(path):
     return set(re.findall(r"\w+", text))
 
 
+def words_of(code):
+    """Code as its words and signs with a space between, so that a part of it begins and ends with whole words."""
+    return " " + " ".join(re.findall(r"\w+|[^\w\s]", code)) + " "
+
+
 class Repository:
     def __init__(self, root):
         self.root = root
@@ -31,7 +36,12 @@ class Repository:
         self.files = {path.name for path in found if path.is_file()}
         self.folders = {path.name for path in found if path.is_dir()}
         self.sources = {crate: sorted((root / "crates" / crate / "src").glob("*.rt")) for crate in self.crates}
-        self.all_code = ["".join(path.read_text().split()) for paths in self.sources.values() for path in paths]
+        self.all_code = [words_of(path.read_text()) for paths in self.sources.values() for path in paths]
+        subjects = re.findall(r"^= (\w+)$", (root / "crates/run_cases/stdin").read_text(), re.M)
+        self.runs = {subject + "_cases" for subject in subjects} & self.crates
+        mutants = (root / "docs/mutants.txt").read_text()
+        self.mutants = {*re.findall(r"^(\w+)/\S+ (\w+): ", mutants, re.M),
+                        *re.findall(r"^(\w+)/\S+ \(constants\): .*\n\s+(?:pub )?const (\w+)", mutants, re.M)}
 
     @cache
     def proved(self, place):
@@ -68,6 +78,10 @@ class Repository:
         paths = [path for path in self.sources[crate] if module in (None, path.stem)]
         return any(name in names_of(path) for path in paths)
 
+    def has_mutant(self, crate, name):
+        """A function or constant of the code that mutants of the list change."""
+        return (crate, name) in self.mutants and self.has_in_code(crate, name)
+
     def has_code_path(self, path):
         """crate::name, or crate::module::name with the name in that module."""
         crate, *modules, name = path.split("::")
@@ -75,5 +89,5 @@ class Repository:
 
     @cache
     def has_code(self, line):
-        """Some code that stands in a source file, however it is broken into lines."""
-        return any("".join(line.split()) in code for code in self.all_code)
+        """Some code that stands in a source file word for word, however it is broken into lines."""
+        return any(words_of(line) in code for code in self.all_code)

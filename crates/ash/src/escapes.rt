@@ -7,6 +7,9 @@ use crate::XON;
 ghost use mathlib.Core.Path.{_≡_};
 ghost use Rattle.ash.specs.Reserved.{reserved, flipped, unescaped, rightlyEscaped};
 
+// Bit 5, which is flipped in an escaped byte.
+const FLIPPED_BIT: u8 = 0x20;
+
 // Whether a byte is one that the link reserves.
 pub(crate) fn is_reserved(byte: u8) -> bool
     ensures { λ r. ⌜ r ≡ reserved byte ⌝ }
@@ -21,7 +24,7 @@ pub(crate) fn is_reserved(byte: u8) -> bool
 pub(crate) fn flip(byte: u8) -> u8
     ensures { λ r. ⌜ r ≡ flipped byte ⌝ }
 {
-    byte ^ 0x20
+    byte ^ FLIPPED_BIT
 }
 
 // What a sent byte stands for, escaped or not.

@@ -4,6 +4,7 @@ use mathlib.Core.Bool.{cond}
 use mathlib.Core.List.{List, [], _∷_}
 use lib.Dec.{eqb, ltb}
 use lib.ListN.{length, drop}
+use Rattle.slices.specs.HighFirst.{wordFrom}
 
 -- what stands before the first byte mark; all where there is none
 unfoldable pub until : ℕ → List ℕ → List ℕ
@@ -40,7 +41,7 @@ caseBytes line = bytesOf (drop (length (until 58 line) + 1) line)
 
 -- a number with one byte more behind its last seven
 abbrev pub withByte : ℕ → ℕ → ℕ
-withByte number byte = number % 0x100000000000000 * 256 + byte
+withByte number byte = wordFrom (number % 0x100000000000000) (byte ∷ [])
 
 -- the number that bytes make behind those read before them, high byte first
 unfoldable pub numberFrom : ℕ → List ℕ → ℕ

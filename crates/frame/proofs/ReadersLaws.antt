@@ -2,9 +2,7 @@
 -- the call for the rest gave. Their number then says what the whole run is: no length of content is that of a refusal.
 use mathlib.Core.Path.{_≡_, refl, ap, _∙_}
 use mathlib.Core.List.{List, [], _∷_}
-use mathlib.Core.Logic.{⊎-elim}
-use Prim.Native.Nat.{ℕ, suc, _+_, _≤_, _<_, min}
-use native.Mathlib.Nat.{eq-or-lt-of-le}
+use Prim.Native.Nat.{ℕ, suc, _+_, _-_, _≤_, _<_, min}
 use native.Mathlib.Numerals.{add-one}
 use native.Mathlib.Omega.{arith}
 use lib.ListN.{length, take, drop, getD, set}
@@ -80,31 +78,38 @@ pub copied : (run zeros sent : List ℕ) (count : ℕ) (array : List ℕ) (r : �
 copied run zeros sent count array r exit full put counted u =
     rw (put, counted, sent-enough run zeros full) at u
 
--- their number told as an enum
+-- their number told as an enum: up to the longest content it is a length, above it a refusal's number
 module _ (run array : List ℕ) (r : ℕ) (exit : List ℕ) (u : ReadersAs (unstuff run) 0 array r exit) where
-  pub told-refusal : (k : ℕ) → r ≡ contentMax + k → 0 < k → UnstuffsAs (unstuff run) array (answer.Refused k) exit
+  pub told-content : r ≤ contentMax → UnstuffsAs (unstuff run) array (answer.Content r) exit
   unfolding unstuff
-  told-refusal k is some = cases (unstuffFrom plain 0 run) refl (u .answers)
-    where
-      cases : (found : Unstuffed) → unstuffFrom plain 0 run ≡ found → r ≡ readersAnswer 0 found → UnstuffsAs found array (answer.Refused k) exit
-      cases (content c) e told = absurd (omega (arith, unstuff-bounded plain 0 run c (omega arith) e))
-      cases (refused m) e told =
-          let same : k ≡ m = omega arith in
-          record { answers = ap answer.Refused same; array-filled = λ c f. impossible cc }
-
-  pub told-content : (r ≡ contentMax + badFraming → ⊥) → (r ≡ contentMax + longContent → ⊥) → UnstuffsAs (unstuff run) array (answer.Content r) exit
-  unfolding unstuff
-  told-content no-framing no-length =
+  told-content within =
       record { answers = cases (unstuffFrom plain 0 run) refl (u .answers); array-filled = u .array-filled }
     where
-      neither : (m : ℕ) → r ≡ contentMax + m → (1 ≤ m) × (m ≤ 2) → ⊥
-      neither m told number = ⊎-elim (λ e. no-length (omega arith)) (λ h. no-framing (omega (arith, number))) (eq-or-lt-of-le (number .1))
-
       cases : (found : Unstuffed) → unstuffFrom plain 0 run ≡ found → r ≡ readersAnswer 0 found → answer.Content r ≡ unstuffAnswer found
       cases (content c) e told =
           let size : r ≡ length c = omega arith in
           ap answer.Content size
-      cases (refused m) e told = absurd (neither m told (refused-number plain 0 run m e))
+      cases (refused m) e told = absurd (omega (arith, refused-number plain 0 run m e .0))
+
+  -- a refusal's number fits a byte
+  pub number-fits : r - contentMax < 256
+  unfolding unstuff
+  number-fits = cases (unstuffFrom plain 0 run) refl (u .answers)
+    where
+      cases : (found : Unstuffed) → unstuffFrom plain 0 run ≡ found → r ≡ readersAnswer 0 found → r - contentMax < 256
+      cases (content c) e told = omega (arith, unstuff-bounded plain 0 run c (omega arith) e)
+      cases (refused m) e told = omega (arith, refused-number plain 0 run m e .1)
+
+  pub told-refusal : contentMax < r → UnstuffsAs (unstuff run) array (answer.Refused (r - contentMax)) exit
+  unfolding unstuff
+  told-refusal above = cases (unstuffFrom plain 0 run) refl (u .answers)
+    where
+      cases : (found : Unstuffed) → unstuffFrom plain 0 run ≡ found → r ≡ readersAnswer 0 found
+          → UnstuffsAs found array (answer.Refused (r - contentMax)) exit
+      cases (content c) e told = absurd (omega (arith, unstuff-bounded plain 0 run c (omega arith) e))
+      cases (refused m) e told =
+          let same : r - contentMax ≡ m = omega arith in
+          record { answers = ap answer.Refused same; array-filled = λ c f. impossible cc }
 
 -- what the enum says of the run: a refusal, or content, which then stands in the array
 pub unstuff-refused : (found : Unstuffed) (n : ℕ) → answer.Refused n ≡ unstuffAnswer found → found ≡ refused n

@@ -13,6 +13,8 @@ pub const ESCAPE: u8 = 0x7d;
 pub const ESCAPED_FLAG: u8 = 0x5e;
 
 pub const ESCAPED_ESCAPE: u8 = 0x5d;
+// How much less they are than what they stand for.
+pub const ESCAPED_DIFFERENCE: u8 = 0x20;
 
 pub const PAYLOAD_MAX: usize = 383;
 // Type and sequence, in front of the payload.

@@ -3,6 +3,7 @@
 // need no stack; what they answer as a number is an enum to the rest of the crate.
 use crate::CONTENT_MAX;
 use crate::ESCAPE;
+use crate::ESCAPED_DIFFERENCE;
 use crate::ESCAPED_ESCAPE;
 use crate::ESCAPED_FLAG;
 use refusals::BAD_FRAMING;
@@ -35,13 +36,11 @@ pub(crate) fn unstuff(run: &[u8], content: &mut [u8; CONTENT_MAX]) -> Unstuffed
     slices::put(&mut sent, 0, run);
     let count = sent_count(run.len());
     let answer = read_plain(&sent, count, 0, content, 0);
-    if answer == FRAMING_FAULT {
-        return Unstuffed::Refused(BAD_FRAMING);
+    if answer <= CONTENT_MAX {
+        return Unstuffed::Content(answer);
     }
-    if answer == LENGTH_FAULT {
-        return Unstuffed::Refused(LONG_CONTENT);
-    }
-    Unstuffed::Content(answer)
+    let number = (answer - CONTENT_MAX) as u8;
+    Unstuffed::Refused(number)
 }
 
 // How many of `n` sent bytes have to be looked at.
@@ -77,8 +76,7 @@ fn read_plain(
     LENGTH_FAULT
 }
 
-// The same right behind an escape byte, for exactly one byte. A pair's second byte is 20 hex less
-// than the byte that the pair stands for.
+// The same right behind an escape byte, for exactly one byte.
 fn read_escaped(
     sent: &[u8; SENT_MAX],
     count: usize,
@@ -97,7 +95,7 @@ fn read_escaped(
     match byte {
         ESCAPED_FLAG | ESCAPED_ESCAPE => {
             if held < CONTENT_MAX {
-                content[held] = byte + 0x20;
+                content[held] = byte + ESCAPED_DIFFERENCE;
                 return read_plain(sent, count, next, content, held + 1);
             }
             LENGTH_FAULT

@@ -22,7 +22,8 @@ use Rattle.frame.proofs.WriteLaws.{length-framed, content-room, payload-allowed
 use Rattle.link.specs.declared.counts.Counts.{Counts}
 use Rattle.link.specs.declared.receiver.Last.{Last}
 use Rattle.link.specs.declared.closing.Closed.{Closed}
-use Rattle.link.specs.Closing.{dataType, acknowledgementType, replyRoom, acknowledgement, repeats, Outcome, refusedFrame, acknowledgementFrame, againFrame, newFrame, dataFrame, frameOutcome, closedBy, ClosesAs, AcknowledgesAs}
+use Rattle.link.specs.Closing.{dataType, acknowledgementType, replyRoom, acknowledgement, repeats, Outcome, refusedFrame, acknowledgementFrame, againFrame, newFrame, dataFrame, frameOutcome}
+use Rattle.link.specs.Steps.{closedBy, ClosesAs, AcknowledgesAs}
 
 -- of an acknowledgement's four bytes of content the type is not escaped
 stuffed-acknowledgement : (q h l : ℕ) → length (stuff (acknowledgementType ∷ q ∷ h ∷ l ∷ [])) ≤ 7

@@ -3,12 +3,13 @@ use mathlib.Core.Path.{_≡_, refl}
 use mathlib.Core.List.{List, [], _∷_}
 use Prim.Native.Nat.{ℕ, suc, _≤_, _<_}
 use borrow.Author.Tests.{lt-ltb, le-ltb}
-use Rattle.frame.specs.Stuffing.{escapeByte, contentMax, plain, escaped, Meaning, escapes-next, faulty, meaning}
+use Rattle.frame.specs.Stuffing.{escapeByte, escapedFlag, escapedEscape, contentMax, plain, escaped, Meaning, escapes-next, faulty, meaning}
 use Rattle.frame.proofs.UnstuffLaws.{plain-escape, escaped-fault}
 use Rattle.link.specs.declared.reader.Phase.{Phase}
 use Rattle.link.specs.declared.reader.Phase.the-variants.{Plain, Escaped, BadFraming, LongContent}
 use Rattle.link.specs.declared.reader.Reader.{Reader}
-use Rattle.link.specs.Reader.{Step, turned, storeOf, stepBy, stepIn, stepOf, StepsAs}
+use Rattle.link.specs.Reader.{Step, turned, storeOf, stepBy, stepIn, stepOf}
+use Rattle.link.specs.Steps.{StepsAs}
 
 -- a byte of content is stored while there is room
 pub store-room : (held b : ℕ) → held < contentMax
@@ -37,7 +38,7 @@ module _ (reader : Reader) (b : ℕ) where
         → StepsAs (stepOf reader b) (reader .length) content (record { phase = Escaped; length = reader .length }) content
     escapes e is = turns _ Escaped (reader .length) content (step-plain escapes-next e (plain-escape b is))
 
-    pub faults : reader .phase ≡ Escaped → (b ≡ 0x5e → ⊥) → (b ≡ 0x5d → ⊥)
+    pub faults : reader .phase ≡ Escaped → (b ≡ escapedFlag → ⊥) → (b ≡ escapedEscape → ⊥)
         → StepsAs (stepOf reader b) (reader .length) content (record { phase = BadFraming; length = reader .length }) content
     faults e no-flag no-escape = turns _ BadFraming (reader .length) content (step-escaped faulty e (escaped-fault b no-flag no-escape))
 

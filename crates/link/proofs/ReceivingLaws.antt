@@ -9,9 +9,10 @@ use Rattle.link.specs.declared.walk.Walked.{Walked}
 use Rattle.link.specs.declared.receiver.Link.{Link}
 use Rattle.link.specs.declared.receiver.Received.{Received}
 use Rattle.link.specs.declared.closing.Closed.{Closed}
-use Rattle.link.specs.Walk.{Walk, walkOf, WalksAs}
-use Rattle.link.specs.Closing.{replyRoom, closeOf, ClosesAs}
+use Rattle.link.specs.Walk.{Walk, walkOf}
+use Rattle.link.specs.Closing.{replyRoom, closeOf}
 use Rattle.link.specs.Receiving.{Call, shortCall, walkCall, receiveOf, shortReceived, ReceivesAs}
+use Rattle.link.specs.Steps.{WalksAs, ClosesAs}
 
 module _ (state : Link) (piece : List ℕ) (replySize packetSize : ℕ) where
   pub short-reply : replySize < replyRoom → receiveOf state piece replySize packetSize ≡ shortCall state

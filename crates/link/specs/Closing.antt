@@ -1,12 +1,10 @@
 -- 01, The receiver: what a frame does once the flag behind it is met.
 use Prim.Native.Nat.{ℕ}
 use mathlib.Core.Bool.{Bool, false, cond}
-use mathlib.Core.Path.{_≡_}
 use mathlib.Core.List.{List, []}
 use lib.Dec.{eqb}
 use lib.ListN.{length, take}
 use Rattle.refusals.specs.Numbers.{unknownType, loadedAcknowledgement}
-use Rattle.slices.specs.Put.{putAt}
 use Rattle.frame.specs.Content as content
 use Rattle.frame.specs.Content.{judged}
 use Rattle.frame.specs.Writing.{frameOf}
@@ -18,7 +16,6 @@ use Rattle.link.specs.declared.receiver.Last.{Last}
 use Rattle.link.specs.declared.receiver.Last.the-variants.{None, Sequence}
 use Rattle.link.specs.declared.receiver.Answer.{Answer}
 use Rattle.link.specs.declared.receiver.Answer.the-variants as says
-use Rattle.link.specs.declared.closing.Closed.{Closed}
 use Rattle.link.specs.Counts.{countOf}
 
 abbrev pub dataType : ℕ
@@ -105,16 +102,3 @@ closeOf ends.Nothing array previous before =
     record { last = previous; counts = before; answer = says.Nothing; reply = []; packet = [] }
 closeOf (ends.Content n) array previous before = frameOutcome (take n array) previous before
 closeOf (ends.Refused n) array previous before = refusedFrame n previous before
-
--- how the code answers it
-abbrev pub closedBy : Outcome → Closed
-closedBy o = record { last = o .last; counts = o .counts; answer = o .answer }
-
-pub record ClosesAs (o : Outcome) (reply₀ packet₀ : List ℕ) (result : Closed) (reply₁ packet₁ : List ℕ) : Type 0 where
-  pub answers : result ≡ closedBy o
-  pub replied : reply₁ ≡ putAt reply₀ 0 (o .reply)
-  pub handed-out : packet₁ ≡ putAt packet₀ 0 (o .packet)
-
-pub record AcknowledgesAs (sequence : ℕ) (reply₀ : List ℕ) (size : ℕ) (reply₁ : List ℕ) : Type 0 where
-  pub answers : size ≡ length (acknowledgement sequence)
-  pub replied : reply₁ ≡ putAt reply₀ 0 (acknowledgement sequence)

@@ -3,4 +3,5 @@ pub mod Walk
 pub mod Counts
 pub mod Closing
 pub mod Receiving
+pub mod Steps
 pub mod Seen

@@ -1,7 +1,6 @@
 -- 01, The receiver: what the receiver makes of one byte of the line.
 use Prim.Native.Nat.{ℕ, suc}
 use mathlib.Core.Bool.{cond}
-use mathlib.Core.Path.{_≡_}
 use mathlib.Core.List.{List, [], _∷_}
 use lib.Dec.{eqb, ltb}
 use Rattle.refusals.specs.Numbers.{badFraming, longContent}
@@ -65,7 +64,3 @@ stepOf reader b = stepIn (reader .phase) (reader .length) b
 -- the content with what a byte brings behind the bytes held
 abbrev pub contentAfter : List ℕ → ℕ → Step → List ℕ
 contentAfter content held step = putAt content held (step .brings)
-
-pub record StepsAs (step : Step) (held : ℕ) (content : List ℕ) (answer : Reader) (exit : List ℕ) : Type 0 where
-  pub answers : answer ≡ step .reader
-  pub array : exit ≡ contentAfter content held step

@@ -2,14 +2,12 @@
 -- piece, and says how many bytes it took.
 use Prim.Native.Nat.{ℕ, suc}
 use mathlib.Core.Bool.{cond}
-use mathlib.Core.Path.{_≡_}
 use mathlib.Core.List.{List, [], _∷_}
 use lib.Dec.{eqb}
 use Rattle.frame.specs.Stuffing.{flagByte}
 use Rattle.link.specs.declared.reader.Reader.{Reader}
 use Rattle.link.specs.declared.reader.Ended.{Ended}
 use Rattle.link.specs.declared.reader.Ended.the-variants as ended
-use Rattle.link.specs.declared.walk.Walked as declared
 use Rattle.link.specs.Reader.{behindFlag, endedBy, stepOf, contentAfter}
 
 -- what one byte does: the walk goes on with content and reader, or stops at what the flag ended
@@ -44,11 +42,3 @@ unfoldable pub walkOf : List ℕ → List ℕ → Reader → ℕ → Walk
 walkOf [] content reader n = record { content = content; reader = reader; taken = n; ended = ended.Nothing }
 walkOf (b ∷ bs) content reader n =
     goOn (turnOf content reader b) content (suc n) (λ content₁ reader₁ n₁. walkOf bs content₁ reader₁ n₁)
-
--- how the code answers a walk, and what it leaves in the array
-abbrev pub walkAnswer : Walk → declared.Walked
-walkAnswer w = record { reader = w .reader; taken = w .taken; ended = w .ended }
-
-pub record WalksAs (walk : Walk) (answer : declared.Walked) (exit : List ℕ) : Type 0 where
-  pub answers : answer ≡ walkAnswer walk
-  pub array : exit ≡ walk .content

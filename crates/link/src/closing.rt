@@ -14,7 +14,8 @@ use refusals::UNKNOWN_TYPE;
 ghost use mathlib.Core.Path.{_≡_};
 ghost use Prim.Native.Nat.{_≤_};
 ghost use lib.ListN.{length};
-ghost use Rattle.link.specs.Closing.{replyRoom, refusedFrame, acknowledgementFrame, frameOutcome, closeOf, closedBy, ClosesAs};
+ghost use Rattle.link.specs.Closing.{replyRoom, refusedFrame, acknowledgementFrame, frameOutcome, closeOf};
+ghost use Rattle.link.specs.Steps.{closedBy, ClosesAs};
 
 // What the papers call a frame's type is `kind` here and in the frame crate.
 pub const DATA: u8 = 0x01;

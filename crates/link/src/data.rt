@@ -11,7 +11,8 @@ use frame::writer::write_frame;
 ghost use mathlib.Core.Path.{_≡_};
 ghost use Prim.Native.Nat.{_≤_};
 ghost use lib.ListN.{length};
-ghost use Rattle.link.specs.Closing.{replyRoom, repeats, dataFrame, ClosesAs, AcknowledgesAs};
+ghost use Rattle.link.specs.Closing.{replyRoom, repeats, dataFrame};
+ghost use Rattle.link.specs.Steps.{ClosesAs, AcknowledgesAs};
 
 // Answers a data frame, and hands its payload out unless it came again.
 pub(crate) fn take_data(

@@ -2,12 +2,14 @@
 // content as it comes.
 use frame::CONTENT_MAX;
 use frame::ESCAPE;
+use frame::ESCAPED_DIFFERENCE;
 use frame::ESCAPED_ESCAPE;
 use frame::ESCAPED_FLAG;
 use refusals::BAD_FRAMING;
 use refusals::LONG_CONTENT;
 ghost use mathlib.Core.Path.{_≡_};
-ghost use Rattle.link.specs.Reader.{behindFlag, endedBy, stepOf, storeOf, StepsAs};
+ghost use Rattle.link.specs.Reader.{behindFlag, endedBy, stepOf, storeOf};
+ghost use Rattle.link.specs.Steps.{StepsAs};
 
 // Where a reader stands: before the first flag; behind a plain byte or a flag; behind an escape
 // byte; or in a frame in which refusal 1 or 2 was met.
@@ -62,8 +64,7 @@ pub(crate) fn ended_by_flag(reader: Reader) -> Ended
     }
 }
 
-// Takes one byte that is no flag. A pair's second byte is 20 hex less than the byte that the pair
-// stands for.
+// Takes one byte that is no flag.
 pub(crate) fn step(reader: Reader, byte: u8, content: &mut [u8; CONTENT_MAX]) -> Reader
     ensures { λ r. ⌜ StepsAs (stepOf reader byte) (reader .length) (now (content .entry)) r (now (content .exit)) ⌝ }
 {
@@ -80,7 +81,7 @@ pub(crate) fn step(reader: Reader, byte: u8, content: &mut [u8; CONTENT_MAX]) ->
             store(length, byte, content)
         }
         Phase::Escaped => match byte {
-            ESCAPED_FLAG | ESCAPED_ESCAPE => store(length, byte + 0x20, content),
+            ESCAPED_FLAG | ESCAPED_ESCAPE => store(length, byte + ESCAPED_DIFFERENCE, content),
             _ => Reader {
                 phase: Phase::BadFraming,
                 length,

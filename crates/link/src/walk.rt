@@ -6,7 +6,8 @@ use crate::reader::ended_by_flag;
 use crate::reader::step;
 use frame::CONTENT_MAX;
 use frame::FLAG;
-ghost use Rattle.link.specs.Walk.{WalksAs, walkOf};
+ghost use Rattle.link.specs.Walk.{walkOf};
+ghost use Rattle.link.specs.Steps.{WalksAs};
 
 // How far a piece was walked, and what the flag at which the walk stopped ended.
 pub struct Walked {

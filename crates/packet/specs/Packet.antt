@@ -9,6 +9,14 @@ use Rattle.refusals.specs.Numbers.{noDataPacket, badItems}
 use Rattle.slices.specs.HighFirst.{pairOf, highFirst}
 use Rattle.packet.specs.Items.{Item, itemsOf, itemsBytes}
 
+-- a data packet's first byte
+abbrev pub dataByte : ℕ
+dataByte = 1
+
+-- the bytes in front of a packet's items: 01, opcode, request id
+abbrev pub headLength : ℕ
+headLength = 4
+
 pub record Packet : Type 0 where
   pub opcode : ℕ
   pub id : ℕ
@@ -21,7 +29,7 @@ pub data Judged : Type 0 where
 
 -- 01, Refusal numbers, 9: a packet has under 4 bytes or its first byte is not 1
 unfoldable pub isData : List ℕ → Bool
-isData bytes = leb 4 (length bytes) && eqb (getD bytes 0 0) 1
+isData bytes = leb headLength (length bytes) && eqb (getD bytes 0 0) dataByte
 
 -- 01, Refusal numbers, 10, where there are no items to be read
 unfoldable pub withItems : ℕ → ℕ → Option (List Item) → Judged
@@ -32,7 +40,7 @@ withItems opcode id (some items) = packet (record { opcode = opcode; id = id; it
 unfoldable pub packetOf : List ℕ → Judged
 packetOf bytes =
     cond (isData bytes)
-    (withItems (getD bytes 1 0) (pairOf (getD bytes 2 0) (getD bytes 3 0)) (itemsOf (drop 4 bytes)))
+    (withItems (getD bytes 1 0) (pairOf (getD bytes 2 0) (getD bytes 3 0)) (itemsOf (drop headLength bytes)))
     (refused noDataPacket)
 
 -- the items of a packet, and no items where it is refused
@@ -45,7 +53,7 @@ packetItems bytes = judgedItems (packetOf bytes)
 
 -- a data packet as it is sent: its first four bytes in front of its items' bytes
 abbrev pub withHead : ℕ → ℕ → List ℕ → List ℕ
-withHead opcode id bytes = 1 ∷ opcode ∷ highFirst 2 id ++ bytes
+withHead opcode id bytes = dataByte ∷ opcode ∷ highFirst 2 id ++ bytes
 
 unfoldable pub packetBytes : Packet → List ℕ
 packetBytes p = withHead (p .opcode) (p .id) (itemsBytes (p .items))

@@ -12,6 +12,19 @@ use Rattle.packet.specs.Names.{validName, validLocation}
 use Rattle.packet.specs.declared.requests.Offset.{Offset}
 use Rattle.packet.specs.declared.requests.Offset.the-variants.{Given, Omitted}
 
+-- 01, Items and packets: the opcodes of the four requests
+abbrev pub getOpcode : ℕ
+getOpcode = 0x02
+
+abbrev pub fileOpcode : ℕ
+fileOpcode = 0x0a
+
+abbrev pub fetchedOpcode : ℕ
+fetchedOpcode = 0x0d
+
+abbrev pub stopOpcode : ℕ
+stopOpcode = 0x0e
+
 -- 01, Items and packets: a Name, an Offset in four bytes, high byte first, a Location
 unfoldable pub nameItem : List ℕ → Item
 nameItem name = record { kind = nameKind; value = name }
@@ -27,19 +40,18 @@ unfoldable pub offsetItems : Offset → List Item
 offsetItems (Given offset) = offsetItem offset ∷ []
 offsetItems Omitted = []
 
--- 01, Items and packets: property get (02, Name), file request (0a, Location, then Offset if wanted), fetched (0d, Location),
--- stop (0e, no items)
+-- property get (Name), file request (Location, then Offset if wanted), fetched (Location), stop (no items)
 unfoldable pub getPacket : ℕ → List ℕ → Packet
-getPacket id name = record { opcode = 0x02; id = id; items = nameItem name ∷ [] }
+getPacket id name = record { opcode = getOpcode; id = id; items = nameItem name ∷ [] }
 
 unfoldable pub filePacket : ℕ → List ℕ → Offset → Packet
-filePacket id location offset = record { opcode = 0x0a; id = id; items = locationItem location ∷ offsetItems offset }
+filePacket id location offset = record { opcode = fileOpcode; id = id; items = locationItem location ∷ offsetItems offset }
 
 unfoldable pub fetchedPacket : ℕ → List ℕ → Packet
-fetchedPacket id location = record { opcode = 0x0d; id = id; items = locationItem location ∷ [] }
+fetchedPacket id location = record { opcode = fetchedOpcode; id = id; items = locationItem location ∷ [] }
 
 unfoldable pub stopPacket : ℕ → Packet
-stopPacket id = record { opcode = 0x0e; id = id; items = [] }
+stopPacket id = record { opcode = stopOpcode; id = id; items = [] }
 
 -- 01, Refusal numbers: request writers check name or location (12, 20) before 7
 unfoldable pub propertyGet : ℕ → List ℕ → ℕ → Output

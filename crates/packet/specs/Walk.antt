@@ -7,7 +7,7 @@ use lib.Dec.{leb, eqb}
 use lib.ListN.{length, getD, drop}
 use Rattle.packet.specs.ItemTypes.{eofKind}
 use Rattle.packet.specs.Items.{Item, countOf, itemsOf}
-use Rattle.packet.specs.Packet.{isData}
+use Rattle.packet.specs.Packet.{headLength, isData}
 use Rattle.packet.specs.Answers.{headIn, findIn, behindIn}
 use Rattle.packet.specs.declared.items.Found.{Found}
 use Rattle.packet.specs.declared.reading.Survey.{Survey}
@@ -39,9 +39,9 @@ tallyOf at kind (some items) =
 
 -- the same of a packet, whose items stand behind its first four bytes
 unfoldable pub packetTally : ℕ → List ℕ → Tally
-packetTally kind bytes = cond (isData bytes) (tallyOf 4 kind (itemsOf (drop 4 bytes))) Broken
+packetTally kind bytes = cond (isData bytes) (tallyOf headLength kind (itemsOf (drop headLength bytes))) Broken
 
 -- what the items are to the kind, in a packet whose items stand from the fifth byte on
 abbrev pub surveyOf : ℕ → List Item → Survey
 surveyOf kind items =
-    record { all = length items; count = countOf kind items; first = findIn 4 kind items; behind = behindIn 4 kind items }
+    record { all = length items; count = countOf kind items; first = findIn headLength kind items; behind = behindIn headLength kind items }

@@ -2,7 +2,7 @@
 ghost use mathlib.Core.Path.{_≡_};
 ghost use lib.ListN.{length};
 ghost use Rattle.packet.specs.Items.{countOf, valueIn};
-ghost use Rattle.packet.specs.Packet.{isData, packetOf, packetItems};
+ghost use Rattle.packet.specs.Packet.{headLength, isData, packetOf, packetItems};
 ghost use Rattle.packet.specs.Answers.{findIn, behindIn, readingOf};
 ghost use Rattle.packet.specs.Walk.{packetTally, surveyOf};
 use crate::DATA;
@@ -109,7 +109,7 @@ pub fn count(s: &[u8], kind: u8) -> usize
 
 // The first item of the kind in a packet; in a refused one nothing is found.
 pub fn find(s: &[u8], kind: u8) -> Found
-    ensures { λ r. ⌜ r ≡ findIn 4 kind (packetItems (now (s .entry))) ⌝ }
+    ensures { λ r. ⌜ r ≡ findIn headLength kind (packetItems (now (s .entry))) ⌝ }
 {
     look_over(s, kind).first
 }
@@ -132,7 +132,7 @@ pub fn value(s: &[u8], kind: u8) -> &[u8]
 
 // The item right behind the first item of the kind in a packet; in a refused one nothing is found.
 pub fn behind(s: &[u8], kind: u8) -> Found
-    ensures { λ r. ⌜ r ≡ behindIn 4 kind (packetItems (now (s .entry))) ⌝ }
+    ensures { λ r. ⌜ r ≡ behindIn headLength kind (packetItems (now (s .entry))) ⌝ }
 {
     look_over(s, kind).behind
 }

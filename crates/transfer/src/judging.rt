@@ -20,7 +20,7 @@ use refusals::PAST_LENGTH;
 use refusals::WRONG_OFFSET;
 
 // The opcode of a fragment packet.
-pub const FRAGMENT: u8 = 0x0b;
+const FRAGMENT: u8 = 0x0b;
 
 // What a packet is to a transfer: refused, or accepted with the offset of its bytes and what the
 // transfer is then.

@@ -5,9 +5,7 @@ mod judging;
 mod state;
 mod taking;
 
-pub use judging::FRAGMENT;
 pub use state::Declared;
-pub use state::LOCATION_ROOM;
 pub use state::Transfer;
 pub use taking::Answer;
 pub use taking::Outcome;

@@ -4,7 +4,7 @@ ghost use Rattle.slices.specs.Same.{sameBytes};
 ghost use Rattle.transfer.specs.Transfer.{freshTransfer, locationOf, goesOn, advanced};
 
 // How many bytes a transfer has for its location.
-pub const LOCATION_ROOM: usize = packet::LONGEST_LOCATION;
+const LOCATION_ROOM: usize = packet::LONGEST_LOCATION;
 
 // The length of the file, once a fragment has declared it.
 pub enum Declared {

@@ -1,9 +1,12 @@
 -- `frame::unstuffing::read_plain` and `read_escaped` meet their contracts. The measure is the bytes left. Each answer is the law of
 -- unstuffing for what the byte means, on what the call for the rest gave.
-use Prim.Native.Nat.{ℕ, _-_, _<_}
+use mathlib.Core.Path.{_≡_}
+use Prim.Native.Nat.{ℕ, _+_, _-_, _<_}
 use native.Mathlib.Omega.{arith}
-use lib.ListN.{getD}
-use Rattle.frame.specs.Stuffing.{plain, escaped}
+use lib.ListN.{take, drop, getD}
+use Rattle.refusals.specs.Numbers.{badFraming}
+use Rattle.frame.specs.Stuffing.{escapedFlag, escapedEscape, contentMax, plain, escaped, unstuffFrom}
+use Rattle.frame.specs.ReaderSteps.{ReadersAs}
 use Rattle.frame.proofs.UnstuffLaws.{plain-escape, plain-byte, escaped-byte, escaped-fault}
 use Rattle.frame.proofs.ReadersLaws.{ends-plain, ends-escaped, reads-escape, reads-fault, reads-byte, reads-full}
 use borrow.Fn.Kinds.{In}
@@ -92,19 +95,21 @@ read-escaped-returns-3 t c =
     let b = getD (a .sent .now) (a .at) 0 in
     reads-full (a .sent .now) (a .count) (a .at) (a .held) (a .content .now) escaped (left .before .pre .1 .1) (left .if1 .left) _ (escaped-byte b (omega arith) (omega arith)) (c .if4 .left)
 
-read-escaped-returns-4 : (t : ℕ) → read-escaped-lts.Need-returns-4 (read-escaped-claims t) (read-escaped-at t) read-escaped.Post
-read-escaped-returns-4 t c =
-    let left = c .before .before in
-    let a = left .before .args in
+-- a byte that stands for nothing behind an escape byte
+read-escaped-fault : (t : ℕ) (left : read-escaped-lts.Else1 (read-escaped-claims t) (read-escaped-at t) read-escaped.Post)
+    → let a = left .before .args in
     let b = getD (a .sent .now) (a .at) 0 in
-    reads-fault (a .sent .now) (a .count) (a .at) (a .held) (a .content .now) escaped (left .before .pre .1 .1) (left .if1 .left) (escaped-fault b (λ e. omega arith) (λ e. omega arith))
+    (b ≡ escapedFlag → ⊥) → (b ≡ escapedEscape → ⊥)
+    → ReadersAs (unstuffFrom escaped (a .held) (drop (a .at) (take (a .count) (a .sent .now)))) (a .held) (a .content .now) (contentMax + badFraming) (a .content .now)
+read-escaped-fault t left no-flag no-escape =
+    let a = left .before .args in
+    reads-fault (a .sent .now) (a .count) (a .at) (a .held) (a .content .now) escaped (left .before .pre .1 .1) (left .if1 .left) (escaped-fault _ no-flag no-escape)
+
+read-escaped-returns-4 : (t : ℕ) → read-escaped-lts.Need-returns-4 (read-escaped-claims t) (read-escaped-at t) read-escaped.Post
+read-escaped-returns-4 t c = read-escaped-fault t (c .before .before) (λ e. omega arith) (λ e. omega arith)
 
 read-escaped-returns-5 : (t : ℕ) → read-escaped-lts.Need-returns-5 (read-escaped-claims t) (read-escaped-at t) read-escaped.Post
-read-escaped-returns-5 t c =
-    let left = c .before .before .before in
-    let a = left .before .args in
-    let b = getD (a .sent .now) (a .at) 0 in
-    reads-fault (a .sent .now) (a .count) (a .at) (a .held) (a .content .now) escaped (left .before .pre .1 .1) (left .if1 .left) (escaped-fault b (λ e. omega arith) (λ e. omega arith))
+read-escaped-returns-5 t c = read-escaped-fault t (c .before .before .before) (λ e. omega arith) (λ e. omega arith)
 
 read-plain-returns : (t : ℕ) → read-plain-lts.Need-returns (read-plain-claims t) (read-plain-at t) read-plain.Post
 read-plain-returns t c =

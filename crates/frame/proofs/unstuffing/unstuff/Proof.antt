@@ -1,11 +1,11 @@
--- `frame::unstuffing::unstuff` meets its contract: the sent bytes that were copied are enough for the verdict of the whole run, and no
--- length of content is the number that the readers answer for a refusal.
+-- `frame::unstuffing::unstuff` meets its contract: the sent bytes that were copied are enough for the verdict of the whole run, and what
+-- the readers answer for a refusal is above any length of content.
 use mathlib.Core.Path.{refl}
 use native.Mathlib.Omega.{arith}
 use lib.ListN.{replicate}
 use Rattle.frame.specs.Stuffing.{unstuff}
 use Rattle.frame.specs.ReaderSteps.{sentMax, ReadersAs}
-use Rattle.frame.proofs.ReadersLaws.{copied, told-refusal, told-content}
+use Rattle.frame.proofs.ReadersLaws.{copied, told-content, number-fits, told-refusal}
 use borrow.Author.Needs.{needs}
 use Rattle.frame.proofs.unstuffing.unstuff.Statement.{statement}
 use Rattle.frame.proofs.unstuffing.unstuff.Tie as tie
@@ -38,13 +38,16 @@ unstuffed c =
     (c .read-plain .ensures)
 
 returns : tie.Need-returns
-returns c = told-refusal _ _ _ _ (unstuffed (c .before)) 1 (c .if1 .taken) (omega arith)
+returns c = told-content _ _ _ _ (unstuffed (c .before)) (c .if1 .taken)
+
+sub-number : tie.Need-sub-number
+sub-number c = omega arith
+
+cast-number : tie.Need-cast-number
+cast-number c = omega (arith, number-fits _ _ _ _ (unstuffed (c .before)))
 
 returns-2 : tie.Need-returns-2
-returns-2 c = told-refusal _ _ _ _ (unstuffed (c .before .before)) 2 (c .if2 .taken) (omega arith)
-
-returns-3 : tie.Need-returns-3
-returns-3 c = told-content _ _ _ _ (unstuffed (c .before .before)) (c .before .if1 .left) (c .if2 .left)
+returns-2 c = told-refusal _ _ _ _ (unstuffed (c .before)) (c .if1 .left)
 
 pub unstuff-spec : {M : Type 1} → statement M
 unstuff-spec =
@@ -55,5 +58,6 @@ unstuff-spec =
     sent-count-requires
     read-plain-requires
     returns
-    returns-2
-    returns-3)
+    sub-number
+    cast-number
+    returns-2)

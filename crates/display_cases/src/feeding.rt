@@ -74,7 +74,8 @@ pub(crate) fn pass(before: Passed, stream: &[u8], shown: bool) -> Passed {
     passed
 }
 
-// One call with buffers of the least size; they count where it brought a frame.
+// One call with buffers of the least size; they count where it brought a frame. The contract says how
+// many bytes it takes, and no more: the loop needs that to end.
 fn take_piece(before: Passed, piece: &[u8], shown: bool) -> Call
     ensures { λ r. ⌜ Takes (now (piece .entry)) (r .taken) ⌝ }
 {

@@ -71,7 +71,8 @@ fn feed(
     next
 }
 
-// The next piece of what is left of a stream; a size of 0 means all of it.
+// The next piece of what is left of a stream; a size of 0 means all of it. The contract says only that
+// some of it is taken: the loop needs that to end.
 fn piece_length(size: usize, left: usize) -> usize
     ensures { λ r. ⌜ (r ≤ left) × (min left 1 ≤ r) ⌝ }
 {

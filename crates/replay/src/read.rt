@@ -109,6 +109,8 @@ fn feed(display: Display, bytes: &[u8]) -> Step {
     with(next, Progress::Played)
 }
 
+// One call, whose reply is printed. The contract says how many bytes it takes, and no more: the loop
+// needs that to end.
 fn take(display: Display, piece: &[u8]) -> Taken
     ensures { λ r. ⌜ Takes (now (piece .entry)) (r .taken) ⌝ }
 {

@@ -14,8 +14,8 @@ Inv-loop stream size rounds reply₀ packet₀ next₀ i₀ reply packet next i 
 abbrev μ-loop : tie.MeasureT-loop
 μ-loop stream size rounds reply₀ packet₀ next₀ i₀ reply packet next i = rounds - i
 
-hive-requires : tie.Need-hive-requires Inv-loop μ-loop
-hive-requires c κs = tt
+fresh-display-requires : tie.Need-fresh-display-requires Inv-loop μ-loop
+fresh-display-requires c κs = tt
 
 loop-holds : tie.Need-loop-holds Inv-loop μ-loop
 loop-holds c = omega arith
@@ -47,7 +47,7 @@ feed-rounds-spec =
     (tie.spec
     Inv-loop
     μ-loop
-    hive-requires
+    fresh-display-requires
     loop-holds
     slice-aggregate-feed
     slice-aggregate-feed-2

@@ -34,9 +34,13 @@ pub record Good (limit : ℕ) (names : List (List ℕ)) : Type 0 where
   pub once : distinct names ≡ true
   pub few : length names ≤ limit
 
+-- tag 01 is a name
+abbrev pub nameTag : ℕ
+nameTag = 0x01
+
 -- whether a field is a whole name: the value is no longer than the rest behind the length
 abbrev pub isWhole : ℕ → ℕ → List ℕ → Bool
-isWhole tag size rest = eqb tag 0x01 && leb size (length rest)
+isWhole tag size rest = eqb tag nameTag && leb size (length rest)
 
 -- the names of the fields, behind those before them; none where a field is refused. `skip` bytes of a name that has joined
 -- are passed over first.
@@ -57,7 +61,7 @@ watchNames limit fields = namesFrom limit 0 [] fields
 
 -- a name as a field, and names as a list of fields
 abbrev pub nameField : List ℕ → List ℕ
-nameField name = 0x01 ∷ highFirst 2 (length name) ++ name
+nameField name = nameTag ∷ highFirst 2 (length name) ++ name
 
 unfoldable pub fieldsOf : List (List ℕ) → List ℕ
 fieldsOf [] = []

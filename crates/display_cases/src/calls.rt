@@ -4,6 +4,7 @@ use display::Answer;
 use display::Display;
 use frame::PAYLOAD_MAX;
 use link::receiver::REPLY_ROOM;
+ghost use mathlib.Core.Path.{_≡_};
 
 // Calls with a reply buffer, then with a packet buffer that is a byte too short.
 pub(crate) fn short_buffers(display: Display, piece: &[u8]) -> Display {
@@ -53,8 +54,10 @@ fn show_reading(reading: board::Answer) {
     }
 }
 
-// The counts, then the rows that have a name.
-pub fn show_display(display: Display) -> Display {
+// Prints the counts, then the rows that have a name, and answers the display as it was.
+pub fn show_display(display: Display) -> Display
+    ensures { λ r. ⌜ r ≡ display ⌝ }
+{
     let link = display.link;
     reports::counts(link.counts);
     reports::rows(display.board);

@@ -3,13 +3,11 @@
 use Prim.Native.Nat.{ℕ}
 use mathlib.Core.Bool.{Bool, cond}
 use lib.Dec.{eqb, ltb}
+use Rattle.board.specs.WatchList.{nameTag}
 use Rattle.history.specs.declared.fields.Head.{Head}
 use Rattle.history.specs.declared.fields.Head.the-variants.{Name, Received, Tick, Broken}
 
--- the tags of a name, of received bytes and of a tick
-abbrev pub nameTag : ℕ
-nameTag = 0x01
-
+-- the tags of received bytes and of a tick; that of a name is the watch list's
 abbrev pub receivedTag : ℕ
 receivedTag = 0x02
 

@@ -5,10 +5,11 @@ use mathlib.Core.List.{List, [], _∷_}
 use mathlib.Core.Option.{Option, none, some}
 use lib.Dec.{eqb}
 use lib.ListN.{length, take, drop}
-use Rattle.packet.specs.Items.{Item}
-use Rattle.packet.specs.Packet.{Judged, packet, refused}
+use Rattle.packet.specs.Items.{Item, countOf}
+use Rattle.packet.specs.Packet.{headLength, Judged, packet, refused, packetOf, packetItems}
 use Rattle.packet.specs.declared.reading.Reading.{Reading}
 use Rattle.packet.specs.declared.reading.Reading.the-variants.{Packet, Refused}
+use Rattle.packet.specs.declared.reading.Look.{Look}
 use Rattle.packet.specs.declared.items.Found.{Found}
 use Rattle.packet.specs.declared.items.Found.the-variants.{At, Nothing}
 
@@ -43,3 +44,15 @@ behindIn at kind (item ∷ items) = cond (eqb (item .kind) kind) (headIn (past a
 unfoldable pub itemAt : List ℕ → Found → Option Item
 itemAt bytes (At kind start size) = some (record { kind = kind; value = take size (drop start bytes) })
 itemAt bytes Nothing = none
+
+-- one look at a packet for a kind: the packet reader's answer, how many items there are and how many of the kind, the first
+-- of these and the item right behind it; a refused packet has no items
+abbrev pub lookOf : ℕ → List ℕ → Look
+lookOf kind bytes =
+    record {
+      reading = readingOf (packetOf bytes);
+      all = length (packetItems bytes);
+      count = countOf kind (packetItems bytes);
+      first = findIn headLength kind (packetItems bytes);
+      behind = behindIn headLength kind (packetItems bytes);
+    }

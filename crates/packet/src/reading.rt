@@ -1,9 +1,9 @@
 // Data packets: the reader of a packet's first four bytes, and what its items are asked for.
 ghost use mathlib.Core.Path.{_≡_};
 ghost use lib.ListN.{length};
-ghost use Rattle.packet.specs.Items.{countOf, valueIn};
+ghost use Rattle.packet.specs.Items.{countOf, valueBytes, valueIn};
 ghost use Rattle.packet.specs.Packet.{headLength, isData, packetOf, packetItems};
-ghost use Rattle.packet.specs.Answers.{findIn, behindIn, readingOf};
+ghost use Rattle.packet.specs.Answers.{findIn, behindIn, itemAt, lookOf, readingOf};
 ghost use Rattle.packet.specs.Walk.{packetTally, surveyOf};
 use crate::DATA;
 use crate::EOF_KIND;
@@ -26,6 +26,17 @@ struct Survey {
     count: usize,
     first: Found,
     behind: Found,
+}
+
+// What one look at a packet for a kind gives: its opcode and request id or the refusal, how many items
+// it has, how many of the kind, the first of these and the item right behind it. A refused packet has
+// no items.
+pub struct Look {
+    pub reading: Reading,
+    pub all: usize,
+    pub count: usize,
+    pub first: Found,
+    pub behind: Found,
 }
 
 // Whether `s` has a data packet's first four bytes.
@@ -91,6 +102,45 @@ fn look_over(s: &[u8], kind: u8) -> Survey
         first,
         behind,
     }
+}
+
+// One look at a packet for a kind.
+pub fn look_for(s: &[u8], kind: u8) -> Look
+    ensures { λ r. ⌜ r ≡ lookOf kind (now (s .entry)) ⌝ }
+{
+    let survey = look_over(s, kind);
+    let first = survey.first;
+    let behind = survey.behind;
+    Look {
+        reading: read_packet(s),
+        all: survey.all,
+        count: survey.count,
+        first,
+        behind,
+    }
+}
+
+// The bytes of an item's value, as many of them as the packet has; empty where nothing was found.
+pub fn value_at(s: &[u8], item: Found) -> &[u8]
+    ensures { λ r. ⌜ now r ≡ valueBytes (itemAt (now (s .entry)) item) ⌝ }
+{
+    let Found::At {
+        kind: _,
+        start,
+        length,
+    } = item
+    else {
+        return &s[..0];
+    };
+    if s.len() < start {
+        return &s[..0];
+    }
+    let left = s.len() - start;
+    if left < length {
+        return &s[start..];
+    }
+    let end = start + length;
+    &s[start..end]
 }
 
 // How many items a packet has; a refused one has none.

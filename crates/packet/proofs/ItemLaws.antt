@@ -2,16 +2,16 @@
 -- an item has at least two bytes.
 use mathlib.Core.Path.{_≡_, refl, sym, ap, _∙_}
 use mathlib.Core.Bool.{Bool, true, false, cond, _&&_}
-use mathlib.Core.List.{List, [], _∷_, _++_}
+use mathlib.Core.List.{List, [], _∷_}
 use mathlib.Core.Option.{Option, none, some}
-use Prim.Native.Nat.{ℕ, zero, suc, _+_, _*_, _≤_}
+use Prim.Native.Nat.{ℕ, zero, suc, _≤_}
 use native.Mathlib.Omega.{arith}
-use lib.Dec.{leb, eqb}
-use lib.ListN.{length, take, drop, length-append, length-drop, take-append-drop}
+use lib.Dec.{leb}
+use lib.ListN.{length, take, drop, length-drop, take-append-drop}
 use lib.Seq.{length-take-le}
 use borrow.Author.Tests.{leb-true}
 use Rattle.slices.proofs.Impossible.{impossible}
-use Rattle.packet.specs.Items.{Item, inFront, itemsUpTo, itemsFilling, emptyIfEof, eofsEmpty, ifEofsEmpty, itemsOf, itemBytes, itemsBytes, countOf}
+use Rattle.packet.specs.Items.{Item, inFront, itemsUpTo, itemsFilling, emptyIfEof, eofsEmpty, ifEofsEmpty, itemsOf, itemBytes, itemsBytes}
 
 -- any bound of at least the number of bytes gives the same
 enough : (f g : ℕ) (bytes : List ℕ) → length bytes ≤ f → length bytes ≤ g → itemsUpTo f bytes ≡ itemsUpTo g bytes
@@ -129,26 +129,3 @@ items-fill bytes items e = cases (itemsUpTo (length bytes) bytes) refl e
         let k = kept (eofsEmpty found) (some found) items e in
         let i : found ≡ items = cc in
         ap itemsBytes (sym i) ∙ fills-up-to (length bytes) bytes found r
-
--- each item has at least two bytes
-items-bytes : (items : List Item) → length items * 2 ≤ length (itemsBytes items)
-unfolding itemsBytes itemBytes
-items-bytes [] = omega arith
-items-bytes (item ∷ items) =
-    let e : length (item .value ++ itemsBytes items) ≡ length (item .value) + length (itemsBytes items) = length-append (item .value) (itemsBytes items) in
-    let below : length items * 2 ≤ length (itemsBytes items) = items-bytes items in
-    omega arith
-
--- bytes hold at most half as many items
-pub items-few : (bytes : List ℕ) (items : List Item) → itemsOf bytes ≡ some items → length items * 2 ≤ length bytes
-items-few bytes items e = rw (← items-fill bytes items e) (items-bytes items)
-
--- no more of one kind than of all
-pub count-few : (kind : ℕ) (items : List Item) → countOf kind items ≤ length items
-unfolding countOf
-count-few kind [] = omega arith
-count-few kind (item ∷ items) = cases (eqb (item .kind) kind) (count-few kind items)
-  where
-    cases : (t : Bool) → countOf kind items ≤ length items → cond t 1 0 + countOf kind items ≤ suc (length items)
-    cases true h = omega arith
-    cases false h = omega arith

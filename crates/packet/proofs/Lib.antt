@@ -1,8 +1,10 @@
 pub mod FoundLaws
 pub mod ItemLaws
+pub mod LookCalls
 pub mod NameLaws
 pub mod PacketLaws
 pub mod RequestCalls
 pub mod ReadBack
-pub mod WalkLaws
+pub mod ReaderLaws
+pub mod SurveyLaws
 pub mod WriteLaws

@@ -4,5 +4,5 @@ pub mod Packet
 pub mod Names
 pub mod Answers
 pub mod Requests
-pub mod Walk
+pub mod ReaderSteps
 pub mod WriterSteps

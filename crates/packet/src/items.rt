@@ -1,10 +1,13 @@
-// Items: the reader of a packet's items, which keeps what is found of one wanted kind.
+// Items: the reader of a packet's items, one after the other, which keeps what is found of one wanted
+// kind.
 ghost use mathlib.Core.Path.{_≡_};
-ghost use Prim.Native.Nat.{_+_, _<_, _^_};
-ghost use lib.ListN.{length};
+ghost use Prim.Native.Nat.{_≤_};
+ghost use lib.ListN.{length, drop};
 ghost use Rattle.packet.specs.Items.{itemsOf};
-ghost use Rattle.packet.specs.Walk.{Countable, beginsWithItem, withItem, tallyOf};
+ghost use Rattle.packet.specs.Packet.{headLength};
+ghost use Rattle.packet.specs.ReaderSteps.{beginsWithItem, itemFrom, earlier, behindFirst, Countable, withItem, noItems, tallyOf};
 use crate::EOF_KIND;
+use crate::HEAD_LENGTH;
 
 // An item of a packet: its kind, where in the packet its value starts, and the value's length.
 pub enum Found {
@@ -16,17 +19,59 @@ pub enum Found {
     Nothing,
 }
 
-// What the item reader finds in a string of items, if they fill it: how many there are, how many of
-// the wanted kind, the first of these, the item right behind that, and the first item of all.
+// What some items are: how many there are, how many of the wanted kind, the first of these, and the
+// item right behind that.
+pub(crate) struct Survey {
+    pub(crate) all: usize,
+    pub(crate) count: usize,
+    pub(crate) first: Found,
+    pub(crate) behind: Found,
+}
+
+// What the item reader finds, if the items fill the packet.
 pub(crate) enum Tally {
-    Items {
-        all: usize,
-        count: usize,
-        first: Found,
-        behind: Found,
-        head: Found,
-    },
+    Items(Survey),
     Broken,
+}
+
+// Reads the items of a packet, which stand behind its first four bytes, to its end.
+pub(crate) fn read_items(s: &[u8], wanted: u8) -> Tally
+    requires { ⌜ headLength ≤ length (now s) ⌝ }
+    ensures { λ r. ⌜ r ≡ tallyOf headLength wanted (itemsOf (drop headLength (now (s .entry)))) ⌝ }
+{
+    let mut survey = no_items();
+    let mut at = HEAD_LENGTH;
+    while at < s.len() {
+        let item = item_at(s, at);
+        let Found::At {
+            kind,
+            start,
+            length,
+        } = item
+        else {
+            return Tally::Broken;
+        };
+        survey = with_item(survey, item, kind == wanted);
+        at = start + length;
+    }
+    Tally::Items(survey)
+}
+
+// The item that the bytes from the place `at` on begin with, if they begin with one.
+fn item_at(s: &[u8], at: usize) -> Found
+    requires { ⌜ at ≤ length (now s) ⌝ }
+    ensures { λ r. ⌜ r ≡ itemFrom at (drop at (now (s .entry))) ⌝ }
+{
+    let rest = &s[at..];
+    let whole = begins_with_item(rest);
+    if !whole {
+        return Found::Nothing;
+    }
+    Found::At {
+        kind: rest[0],
+        start: at + 2,
+        length: rest[1] as usize,
+    }
 }
 
 // Whether `rest` begins with a whole item, and with an empty one if it is an EOF item.
@@ -47,78 +92,60 @@ fn begins_with_item(rest: &[u8]) -> bool
     true
 }
 
-fn no_items() -> Tally
-    ensures { λ r. ⌜ r ≡ Tally.Items 0 0 Found.Nothing Found.Nothing Found.Nothing ⌝ }
+fn no_items() -> Survey
+    ensures { λ r. ⌜ r ≡ noItems ⌝ }
 {
-    Tally::Items {
+    Survey {
         all: 0,
         count: 0,
         first: Found::Nothing,
         behind: Found::Nothing,
-        head: Found::Nothing,
     }
 }
 
-// What is found in `rest` with `item` in front of it, which is of the wanted kind or not.
-fn with_item(item: Found, wanted: bool, rest: Tally) -> Tally
-    requires { ⌜ Countable rest ⌝ }
-    ensures { λ r. ⌜ r ≡ withItem item wanted rest ⌝ }
+// What the items are with one more behind them, which is of the wanted kind or not.
+fn with_item(survey: Survey, item: Found, wanted: bool) -> Survey
+    requires { ⌜ Countable survey ⌝ }
+    ensures { λ r. ⌜ r ≡ withItem survey item wanted ⌝ }
 {
-    let Tally::Items {
-        all,
-        count,
-        first,
-        behind,
-        head,
-    } = rest
-    else {
-        return Tally::Broken;
-    };
-    let more = all + 1;
-    if wanted {
-        let another = count + 1;
-        return Tally::Items {
-            all: more,
-            count: another,
-            first: item,
-            behind: head,
-            head: item,
+    let all = survey.all + 1;
+    let first = survey.first;
+    let next = survey.behind;
+    let behind = behind_first(first, next, item);
+    if !wanted {
+        return Survey {
+            all,
+            count: survey.count,
+            first,
+            behind,
         };
     }
-    Tally::Items {
-        all: more,
+    let count = survey.count + 1;
+    Survey {
+        all,
         count,
-        first,
+        first: earlier(first, item),
         behind,
-        head: item,
     }
 }
 
-// Reads the items of `rest`, which stands in its packet from the place `at` on: the first item, and
-// what is left behind it by the same rule. It calls itself once for each item, of which a packet
-// from the link has at most 189.
-pub(crate) fn read_items(rest: &[u8], wanted: u8, at: usize) -> Tally
-    requires { ⌜ at + length (now rest) < 2 ^ 64 ⌝ }
-    ensures { λ r. ⌜ r ≡ tallyOf at wanted (itemsOf (now (rest .entry))) ⌝ }
+// The item right behind the first of the kind, with one more item read: that item, if the first was
+// the last one read before it.
+fn behind_first(first: Found, behind: Found, item: Found) -> Found
+    ensures { λ r. ⌜ r ≡ behindFirst first behind item ⌝ }
 {
-    if rest.len() == 0 {
-        return no_items();
+    match first {
+        Found::At { .. } => earlier(behind, item),
+        Found::Nothing => behind,
     }
-    let whole = begins_with_item(rest);
-    if !whole {
-        return Tally::Broken;
+}
+
+// The item that was found first.
+fn earlier(found: Found, item: Found) -> Found
+    ensures { λ r. ⌜ r ≡ earlier found item ⌝ }
+{
+    match found {
+        Found::At { .. } => found,
+        Found::Nothing => item,
     }
-    let kind = rest[0];
-    let length = rest[1] as usize;
-    let end = length + 2;
-    let start = at + 2;
-    let further = at + end;
-    let behind = read_items(&rest[end..], wanted, further);
-    let item = Found::At {
-        kind,
-        start,
-        length,
-    };
-    let of_kind = kind == wanted;
-    with_item(item, of_kind, behind)
 }

@@ -1,10 +1,11 @@
 // Data packets: the reader of a packet's first four bytes, and what its items are asked for.
 ghost use mathlib.Core.Path.{_≡_};
+ghost use Prim.Native.Nat.{_≤_};
 ghost use lib.ListN.{length};
 ghost use Rattle.packet.specs.Items.{countOf, valueBytes, valueIn};
 ghost use Rattle.packet.specs.Packet.{headLength, isData, packetOf, packetItems};
 ghost use Rattle.packet.specs.Answers.{findIn, behindIn, itemAt, lookOf, readingOf};
-ghost use Rattle.packet.specs.Walk.{packetTally, surveyOf};
+ghost use Rattle.packet.specs.ReaderSteps.{headReading, refusedLook};
 use crate::DATA;
 use crate::EOF_KIND;
 use crate::HEAD_LENGTH;
@@ -18,14 +19,6 @@ use refusals::NO_DATA_PACKET;
 pub enum Reading {
     Packet { opcode: u8, id: u16 },
     Refused(u8),
-}
-
-// How many items a packet has, how many of one kind, the first of these and the item right behind it.
-struct Survey {
-    all: usize,
-    count: usize,
-    first: Found,
-    behind: Found,
 }
 
 // What one look at a packet for a kind gives: its opcode and request id or the refusal, how many items
@@ -49,75 +42,92 @@ fn is_data(s: &[u8]) -> bool
     s[0] == DATA
 }
 
-// What the item reader finds in a packet; `Broken` where the packet is refused. Whether it is does
-// not depend on the kind.
-fn tally_packet(s: &[u8], kind: u8) -> Tally
-    ensures { λ r. ⌜ r ≡ packetTally kind (now (s .entry)) ⌝ }
-{
-    let data = is_data(s);
-    if !data {
-        return Tally::Broken;
-    }
-    read_items(&s[HEAD_LENGTH..], kind, HEAD_LENGTH)
-}
-
-// The opcode and the request id of a packet, or refusal 9 or 10.
-pub fn read_packet(s: &[u8]) -> Reading
-    ensures { λ r. ⌜ r ≡ readingOf (packetOf (now (s .entry))) ⌝ }
-{
-    let data = is_data(s);
-    if !data {
-        return Reading::Refused(NO_DATA_PACKET);
-    }
-    let Tally::Items { .. } = tally_packet(s, EOF_KIND) else {
-        return Reading::Refused(BAD_ITEMS);
-    };
-    let opcode = s[1];
-    let id = slices::pair(s[2], s[3]);
-    Reading::Packet { opcode, id }
-}
-
-// What a packet's items are, and what they are to the kind; a refused packet has none.
-fn look_over(s: &[u8], kind: u8) -> Survey
-    ensures { λ r. ⌜ r ≡ surveyOf kind (packetItems (now (s .entry))) ⌝ }
-{
-    let Tally::Items {
-        all,
-        count,
-        first,
-        behind,
-        ..
-    } = tally_packet(s, kind)
-    else {
-        return Survey {
-            all: 0,
-            count: 0,
-            first: Found::Nothing,
-            behind: Found::Nothing,
-        };
-    };
-    Survey {
-        all,
-        count,
-        first,
-        behind,
-    }
-}
-
-// One look at a packet for a kind.
+// Looks at a packet for a kind: refusal 9 or 10, or what the packet is and has of the kind.
 pub fn look_for(s: &[u8], kind: u8) -> Look
     ensures { λ r. ⌜ r ≡ lookOf kind (now (s .entry)) ⌝ }
 {
-    let survey = look_over(s, kind);
+    let data = is_data(s);
+    if !data {
+        return refused(NO_DATA_PACKET);
+    }
+    let Tally::Items(survey) = read_items(s, kind) else {
+        return refused(BAD_ITEMS);
+    };
     let first = survey.first;
     let behind = survey.behind;
     Look {
-        reading: read_packet(s),
+        reading: read_head(s),
         all: survey.all,
         count: survey.count,
         first,
         behind,
     }
+}
+
+// The opcode and the request id in a data packet's first four bytes.
+fn read_head(s: &[u8]) -> Reading
+    requires { ⌜ headLength ≤ length (now s) ⌝ }
+    ensures { λ r. ⌜ r ≡ headReading (now (s .entry)) ⌝ }
+{
+    Reading::Packet {
+        opcode: s[1],
+        id: slices::pair(s[2], s[3]),
+    }
+}
+
+fn refused(number: u8) -> Look
+    ensures { λ r. ⌜ r ≡ refusedLook number ⌝ }
+{
+    Look {
+        reading: Reading::Refused(number),
+        all: 0,
+        count: 0,
+        first: Found::Nothing,
+        behind: Found::Nothing,
+    }
+}
+
+// The opcode and the request id of a packet, or refusal 9 or 10. Whether it is refused does not depend
+// on the kind.
+pub fn read_packet(s: &[u8]) -> Reading
+    ensures { λ r. ⌜ r ≡ readingOf (packetOf (now (s .entry))) ⌝ }
+{
+    look_for(s, EOF_KIND).reading
+}
+
+// How many items a packet has; a refused one has none.
+pub fn count_all(s: &[u8]) -> usize
+    ensures { λ r. ⌜ r ≡ length (packetItems (now (s .entry))) ⌝ }
+{
+    look_for(s, EOF_KIND).all
+}
+
+// How many items of the kind a packet has; a refused one has none.
+pub fn count(s: &[u8], kind: u8) -> usize
+    ensures { λ r. ⌜ r ≡ countOf kind (packetItems (now (s .entry))) ⌝ }
+{
+    look_for(s, kind).count
+}
+
+// The first item of the kind in a packet; in a refused one nothing is found.
+pub fn find(s: &[u8], kind: u8) -> Found
+    ensures { λ r. ⌜ r ≡ findIn headLength kind (packetItems (now (s .entry))) ⌝ }
+{
+    look_for(s, kind).first
+}
+
+// The item right behind the first item of the kind in a packet; in a refused one nothing is found.
+pub fn behind(s: &[u8], kind: u8) -> Found
+    ensures { λ r. ⌜ r ≡ behindIn headLength kind (packetItems (now (s .entry))) ⌝ }
+{
+    look_for(s, kind).behind
+}
+
+// The value of the first item of the kind in a packet; empty where there is none.
+pub fn value(s: &[u8], kind: u8) -> &[u8]
+    ensures { λ r. ⌜ now r ≡ valueIn kind (packetItems (now (s .entry))) ⌝ }
+{
+    value_at(s, find(s, kind))
 }
 
 // The bytes of an item's value, as many of them as the packet has; empty where nothing was found.
@@ -141,48 +151,4 @@ pub fn value_at(s: &[u8], item: Found) -> &[u8]
     }
     let end = start + length;
     &s[start..end]
-}
-
-// How many items a packet has; a refused one has none.
-pub fn count_all(s: &[u8]) -> usize
-    ensures { λ r. ⌜ r ≡ length (packetItems (now (s .entry))) ⌝ }
-{
-    look_over(s, EOF_KIND).all
-}
-
-// How many items of the kind a packet has; a refused one has none.
-pub fn count(s: &[u8], kind: u8) -> usize
-    ensures { λ r. ⌜ r ≡ countOf kind (packetItems (now (s .entry))) ⌝ }
-{
-    look_over(s, kind).count
-}
-
-// The first item of the kind in a packet; in a refused one nothing is found.
-pub fn find(s: &[u8], kind: u8) -> Found
-    ensures { λ r. ⌜ r ≡ findIn headLength kind (packetItems (now (s .entry))) ⌝ }
-{
-    look_over(s, kind).first
-}
-
-// The value of the first item of the kind in a packet; empty where there is none.
-pub fn value(s: &[u8], kind: u8) -> &[u8]
-    ensures { λ r. ⌜ now r ≡ valueIn kind (packetItems (now (s .entry))) ⌝ }
-{
-    let Found::At {
-        kind: _,
-        start,
-        length,
-    } = find(s, kind)
-    else {
-        return &s[..0];
-    };
-    let end = start + length;
-    &s[start..end]
-}
-
-// The item right behind the first item of the kind in a packet; in a refused one nothing is found.
-pub fn behind(s: &[u8], kind: u8) -> Found
-    ensures { λ r. ⌜ r ≡ behindIn headLength kind (packetItems (now (s .entry))) ⌝ }
-{
-    look_over(s, kind).behind
 }

@@ -4,7 +4,7 @@ use native.Mathlib.Omega.{arith}
 use lib.ListN.{length, getD}
 use borrow.Author.Needs.{needs}
 use borrow.Author.Tests.{le-leb, lt-leb, eq-eqb, ne-eqb}
-use Rattle.packet.specs.Walk.{beginsWithItem}
+use Rattle.packet.specs.ReaderSteps.{beginsWithItem}
 use Rattle.packet.proofs.items.begins_with_item.Statement.{statement}
 use Rattle.packet.proofs.items.begins_with_item.Tie as tie
 

@@ -1,38 +1,34 @@
--- `packet::items::with_item` meets its contract: each return is a case of the definition.
-use mathlib.Core.Path.{subst}
-use native.Mathlib.Omega.{arith}
+-- `packet::items::with_item` meets its contract: by whether the item is of the wanted kind.
+use mathlib.Core.Path.{_≡_}
+use mathlib.Core.Bool.{true, false}
 use borrow.Author.Needs.{needs}
-use Rattle.packet.specs.declared.items.Tally.{Tally}
-use Rattle.packet.specs.Walk.{Countable, withItem}
+use borrow.Author.Tests.{not-true, not-false}
 use Rattle.packet.proofs.items.with_item.Statement.{statement}
 use Rattle.packet.proofs.items.with_item.Tie as tie
 
-enum-known-rest : tie.Need-enum-known-rest
-enum-known-rest c = search needs
+add-all : tie.Need-add-all
+add-all c = search needs
 
-enum-told : tie.Need-enum-told
-enum-told c = search needs
+behind-first-requires : tie.Need-behind-first-requires
+behind-first-requires c κs = search needs
 
 returns : tie.Need-returns
-unfolding withItem
-returns c = rw (c .enum-told .given .1)
+returns c =
+    let other : c .before .before .before .args .wanted ≡ false = not-true _ (c .if1 .taken) in
+    rw (c .before .behind-first .ensures, other)
 
-add-more : tie.Need-add-more
-unfolding Countable
-add-more c = let room = subst (λ (r : Tally). Countable r) (c .before .rest .given .1) (c .before .before .before .pre) in omega arith
+add-count : tie.Need-add-count
+add-count c = search needs
 
-add-another : tie.Need-add-another
-unfolding Countable
-add-another c = let room = subst (λ (r : Tally). Countable r) (c .before .before .rest .given .1) (c .before .before .before .before .pre) in omega arith
+earlier-requires : tie.Need-earlier-requires
+earlier-requires c κs = search needs
 
 returns-2 : tie.Need-returns-2
-unfolding withItem
-returns-2 c = rw (c .before .before .rest .given .1, c .if1 .taken)
-
-returns-3 : tie.Need-returns-3
-unfolding withItem
-returns-3 c = rw (c .before .before .rest .given .1, c .if1 .left)
+returns-2 c =
+    let test = c .before .before in
+    let of-kind : test .before .before .before .args .wanted ≡ true = not-false _ (test .if1 .left) in
+    rw (c .earlier .ensures, test .before .behind-first .ensures, of-kind)
 
 pub with-item-spec : {M : Type 1} → statement M
 with-item-spec =
-    tie.close (tie.spec enum-known-rest enum-told returns add-more add-another returns-2 returns-3)
+    tie.close (tie.spec add-all behind-first-requires returns add-count earlier-requires returns-2)

@@ -1,3 +1,4 @@
+pub mod FirstItem
 pub mod FoundLaws
 pub mod ItemLaws
 pub mod LookCalls

@@ -16,7 +16,7 @@ returns : tie.Need-returns
 returns c = rw (c .earlier .ensures, c .before .enum-told .given .1)
 
 returns-2 : tie.Need-returns-2
-returns-2 c = search needs
+returns-2 c = rw (c .enum-told2 .given .1)
 
 pub behind-first-spec : {M : Type 1} → statement M
 behind-first-spec = tie.close (tie.spec enum-told earlier-requires enum-told-2 returns returns-2)

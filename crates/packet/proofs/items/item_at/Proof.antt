@@ -9,7 +9,7 @@ use borrow.Author.Needs.{needs}
 use borrow.Author.Tests.{not-true, not-false}
 use Rattle.slices.proofs.PartLaws.{part-rest}
 use Rattle.packet.specs.ReaderSteps.{beginsWithItem, itemFrom}
-use Rattle.packet.proofs.ReaderLaws.{begins-room}
+use Rattle.packet.proofs.FirstItem.{begins-room}
 use Rattle.packet.proofs.items.item_at.Statement.{statement}
 use Rattle.packet.proofs.items.item_at.Tie as tie
 

@@ -1,12 +1,20 @@
 // The board's reading of a packet.
 ghost use mathlib.Core.Path.{_≡_};
-ghost use Rattle.packet.specs.Packet.{packetOf, packetItems};
-ghost use Rattle.board.specs.Reading.{readBoard, refusedWith};
+ghost use Rattle.packet.specs.ItemTypes.{eofKind};
+ghost use Rattle.packet.specs.Items.{countOf};
+ghost use Rattle.packet.specs.Packet.{packetItems};
+ghost use Rattle.packet.specs.Answers.{itemAt};
+ghost use Rattle.rows.specs.Names.{placeOf};
+ghost use Rattle.rows.specs.Rows.{rowNames};
+ghost use Rattle.board.specs.Reading.{readBoard, refusedWith, updated};
 ghost use Rattle.board.specs.ReadingSteps.{taskOf, taskOfItems, readUpdate};
 use packet::EOF_KIND;
 use packet::Found;
+use packet::Look;
 use packet::NAME_KIND;
+use packet::look_for;
 use packet::valid_name;
+use packet::value_at;
 use rows::Board;
 use rows::Place;
 use rows::find;
@@ -30,11 +38,12 @@ pub struct Reading {
     pub answer: Answer,
 }
 
-// What a packet asks of the board, before its Name is looked at; with its request id.
+// What a packet asks of the board, with its request id: an update comes with its Name and the item
+// behind it, neither of them judged yet.
 enum Task {
     Reject(u8),
     Finish { id: u16 },
-    Apply { id: u16 },
+    Apply { id: u16, name: Found, behind: Found },
 }
 
 // The board after a packet. A refused packet and an end mark leave it as it was.
@@ -47,19 +56,21 @@ pub fn read(board: Board, packet: &[u8]) -> Reading
             board,
             answer: Answer::EndMark { id },
         },
-        Task::Apply { id } => read_update(board, id, packet),
+        Task::Apply { id, name, behind } => read_update(board, id, packet, name, behind),
     }
 }
 
-// Tests the packet, its opcode and how many Names it has.
+// Tests the packet, its opcode and how many Names it has. One look answers all three.
 fn judge(packet: &[u8]) -> Task
-    ensures { λ r. ⌜ r ≡ taskOf (packetOf (now (packet .entry))) ⌝ }
+    ensures { λ r. ⌜ r ≡ taskOf (now (packet .entry)) ⌝ }
 {
-    match packet::read_packet(packet) {
+    let names = look_for(packet, NAME_KIND);
+    let reading = names.reading;
+    match reading {
         packet::Reading::Refused(number) => Task::Reject(number),
         packet::Reading::Packet { opcode, id } => {
             if opcode == UPDATE {
-                judge_items(id, packet)
+                judge_items(id, packet, names)
             } else {
                 Task::Reject(refusals::OTHER_OPCODE)
             }
@@ -67,42 +78,46 @@ fn judge(packet: &[u8]) -> Task
     }
 }
 
-fn judge_items(id: u16, packet: &[u8]) -> Task
-    ensures { λ r. ⌜ r ≡ taskOfItems id (packetItems (now (packet .entry))) ⌝ }
+// What a packet asks by the Names that a look found in it. Only without a Name is there a second
+// look, for an EOF item.
+fn judge_items(id: u16, packet: &[u8], names: Look) -> Task
+    ensures { λ r. ⌜ r ≡ taskOfItems id names (countOf eofKind (packetItems (now (packet .entry)))) ⌝ }
 {
-    let names = packet::count(packet, NAME_KIND);
-    if names == 1 {
-        return Task::Apply { id };
+    if names.count == 1 {
+        let name = names.first;
+        let behind = names.behind;
+        return Task::Apply { id, name, behind };
     }
-    if names == 0 {
-        let ends = packet::count(packet, EOF_KIND);
-        if 0 < ends {
+    if names.count == 0 {
+        let ends = look_for(packet, EOF_KIND);
+        if 0 < ends.count {
             return Task::Finish { id };
         }
     }
     Task::Reject(refusals::BAD_NAME)
 }
 
-// Reads a packet with one Name: the Name, the value item right behind it, then the row.
-fn read_update(board: Board, id: u16, packet: &[u8]) -> Reading
-    ensures { λ r. ⌜ r ≡ readUpdate board id (packetItems (now (packet .entry))) ⌝ }
+// Reads the Name, then the value item right behind it, then the row.
+fn read_update(board: Board, id: u16, packet: &[u8], name: Found, behind: Found) -> Reading
+    ensures { λ r. ⌜ r ≡ readUpdate board id (itemAt (now (packet .entry)) name) (itemAt (now (packet .entry)) behind) ⌝ }
 {
-    let name = packet::value(packet, NAME_KIND);
-    if !valid_name(name) {
+    let name_bytes = value_at(packet, name);
+    if !valid_name(name_bytes) {
         return refused(board, refusals::BAD_NAME);
     }
-    let Found::At {
-        kind,
-        start,
-        length,
-    } = packet::behind(packet, NAME_KIND)
-    else {
+    let Found::At { kind, .. } = behind else {
         return refused(board, refusals::BAD_VALUE); // nothing behind the Name
     };
-    let end = start + length;
-    let Value::Number(value) = read_value(kind, &packet[start..end]) else {
+    let Value::Number(value) = read_value(kind, value_at(packet, behind)) else {
         return refused(board, refusals::BAD_VALUE);
     };
+    update_row(board, id, name_bytes, value)
+}
+
+// The row that has the name becomes current with the value.
+fn update_row(board: Board, id: u16, name: &[u8], value: i64) -> Reading
+    ensures { λ r. ⌜ r ≡ updated board id value (placeOf (now (name .entry)) (rowNames board)) ⌝ }
+{
     let Place::Row(row) = find(board, name) else {
         return refused(board, refusals::NOT_WATCHED);
     };

@@ -1,7 +1,6 @@
 -- `board::reading::read` meets its contract: the verdict is the one that the task comes to.
 use borrow.Author.Needs.{needs}
 use mathlib.Core.Path.{sym, _∙_}
-use Rattle.packet.specs.Packet.{packetOf, packetItems}
 use Rattle.board.specs.Reading.{ifWatched, applied, readingOf, readBoard}
 use Rattle.board.specs.ReadingSteps.{readUpdate}
 use Rattle.board.proofs.ReadingLaws.{by-task}
@@ -31,23 +30,23 @@ unfolding readBoard readingOf ifWatched applied
 returns c =
     let known = c .before in
     let judged = known .before .before .before in
-    let j = packetOf (judged .before .before .args .packet .now) in
-    rw (c .refused .ensures, by-task j, sym (judged .judge .ensures) ∙ known .before .number .given .1)
+    let bytes = judged .before .before .args .packet .now in
+    rw (c .refused .ensures, by-task bytes, sym (judged .judge .ensures) ∙ known .before .number .given .1)
 
 returns-2 : tie.Need-returns-2
 unfolding readBoard readingOf ifWatched applied
 returns-2 c =
     let judged = c .before .before .before in
-    let j = packetOf (judged .before .before .args .packet .now) in
-    rw (by-task j, sym (judged .judge .ensures) ∙ c .before .id .given .1)
+    let bytes = judged .before .before .args .packet .now in
+    rw (by-task bytes, sym (judged .judge .ensures) ∙ c .before .id .given .1)
 
 returns-3 : tie.Need-returns-3
-unfolding readBoard readingOf readUpdate packetItems
+unfolding readBoard readingOf readUpdate
 returns-3 c =
     let known = c .before in
     let judged = known .before .before .before in
-    let j = packetOf (judged .before .before .args .packet .now) in
-    rw (by-task j, sym (judged .judge .ensures) ∙ known .before .id2 .given .1) (c .read-update .ensures)
+    let bytes = judged .before .before .args .packet .now in
+    rw (by-task bytes, sym (judged .judge .ensures) ∙ known .before .id2 .given .1) (c .read-update .ensures)
 
 pub read-spec : {M : Type 1} → statement M
 read-spec =

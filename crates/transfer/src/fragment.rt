@@ -18,7 +18,8 @@ enum Number {
     NoNumber,
 }
 
-// What a fragment packet says, with the places of its Location and of its Binary.
+// A fragment of a good form: where its packet has its Location and its Binary, and what it says
+// beside them.
 pub(crate) struct Fragment {
     pub(crate) location: Found,
     pub(crate) binary: Found,
@@ -27,6 +28,7 @@ pub(crate) struct Fragment {
     pub(crate) last: bool,
 }
 
+// What a packet's items are as a fragment.
 pub(crate) enum Form {
     Good(Fragment),
     Bad,

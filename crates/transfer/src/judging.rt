@@ -25,8 +25,8 @@ use refusals::WRONG_OFFSET;
 // The opcode of a fragment packet.
 const FRAGMENT: u8 = 0x0b;
 
-// What a packet is to a transfer: refused, or accepted with the place of its Binary, the offset of its
-// bytes and what the transfer is then.
+// What a packet is to a transfer: refused, or accepted with the place of its Binary, the offset of
+// its bytes and what the transfer is then.
 pub(crate) enum Verdict {
     Accepted {
         binary: Found,

@@ -50,8 +50,8 @@ returns-2 c =
     let told = known .before .reading2 .given in
     let look = known .before .before .before in
     let args = look .before .before .args in
-    c .judge-form .ensures
-    ∙ sym (ap (asVerdict _) (verdict-fragment (args .transfer) (args .room) (packetOf (args .packet .now)) (told .0 .0) (told .0 .1 .0) (sym (read look) ∙ told .1) (opcode .if1 .taken)))
+    rw (verdict-fragment (args .transfer) (args .room) (packetOf (args .packet .now)) (told .0 .0) (told .0 .1 .0) (sym (read look) ∙ told .1) (opcode .if1 .taken))
+    (c .judge-form .ensures)
 
 returns-3 : tie.Need-returns-3
 returns-3 c =

@@ -4,20 +4,16 @@ use mathlib.Core.Path.{_≡_, sym, ap, _∙_}
 use mathlib.Core.Bool.{true}
 use mathlib.Core.List.{List}
 use Prim.Native.Nat.{ℕ}
-use lib.ListN.{length}
 use borrow.Author.Tests.{not-true, not-false}
 use Rattle.slices.specs.Same.{sameBytes}
 use Rattle.packet.specs.ItemTypes.{binaryKind, locationKind}
 use Rattle.packet.specs.Items.{Item, valueIn}
 use Rattle.packet.specs.Packet.{packetItems}
 use Rattle.packet.proofs.FoundLaws.{value-found}
-use Rattle.packet.specs.declared.items.Found.{Found}
 use Rattle.transfer.specs.Fragment.{good, formOf}
-use Rattle.transfer.specs.Transfer.{Verdict, locationOf, judgeEnd, judgeForm}
+use Rattle.transfer.specs.Transfer.{Verdict, locationOf, judgeForm}
 use Rattle.transfer.specs.Steps.{partsOf, asVerdict}
 use Rattle.transfer.specs.declared.fragment.Fragment.{Fragment}
-use Rattle.transfer.specs.declared.state.Declared.{Declared}
-use Rattle.transfer.specs.declared.judging.Verdict as code
 use Rattle.transfer.proofs.StepLaws.{FormTold, form-told, bad-told}
 use Rattle.transfer.proofs.JudgeLaws.{form-other, form-gap, form-next}
 use borrow.Author.Needs.{needs}
@@ -121,12 +117,8 @@ returns-4 c =
     let f = fragment form in
     let next = sym (going .before .goes-on .ensures) ∙ not-false _ (going .if2 .left) in
     let found = value .value-at2 .ensures ∙ value-found (bytes form) binaryKind (f .binary) (sym (told form .binary-at)) in
-    let verdict : Found → List ℕ → Declared → code.Verdict = λ place written declared. asVerdict place (judgeEnd (args .room) (f .offset) (length written) declared (f .last)) in
-    c .judge-end .ensures
-    ∙ ap (λ (place : Found). verdict place (value .value-at2 .result .now) (known .known-length .result)) (told form .binary-at)
-    ∙ ap (λ (written : List ℕ). verdict (partsOf (bytes form) .binary) written (known .known-length .result)) found
-    ∙ ap (verdict (partsOf (bytes form) .binary) (valueIn binaryKind (items form))) (known .known-length .ensures)
-    ∙ judged form _ (form-next (args .transfer) (args .room) (items form) (f .offset) (f .declared) (f .last) (ours test) next)
+    rw (c .judge-end .ensures, told form .binary-at, found, known .known-length .ensures)
+    (judged form _ (form-next (args .transfer) (args .room) (items form) (f .offset) (f .declared) (f .last) (ours test) next))
 
 pub judge-form-spec : {M : Type 1} → statement M
 judge-form-spec =

@@ -5,11 +5,10 @@ use mathlib.Core.List.{List, [], _∷_}
 use mathlib.Core.Option.{none, some}
 use Prim.Native.Nat.{ℕ, _+_, _*_, _≤_, _<_}
 use native.Mathlib.Omega.{arith}
-use lib.Dec.{eqb}
 use lib.ListN.{length, getD}
-use borrow.Author.Tests.{eq-eqb, ne-eqb, lt-ltb, le-ltb, le-leb, lt-leb}
+use borrow.Author.Tests.{eq-eqb, ne-eqb, lt-ltb, le-ltb}
 use Rattle.slices.specs.HighFirst.{wordOf, pairOf}
-use Rattle.packet.specs.ItemTypes.{binaryKind, offsetKind, lengthKind, locationKind, eofKind}
+use Rattle.packet.specs.ItemTypes.{binaryKind, offsetKind, lengthKind}
 use Rattle.packet.specs.Items.{Item, countOf, valueIn}
 use Rattle.transfer.specs.Fragment.{numberOf, rightItems, isLast, rightBinary, rightLocation, good, bad, declaring, formAt, formOf}
 use Rattle.transfer.specs.declared.state.Declared.the-variants.{Unknown}
@@ -45,35 +44,6 @@ number-none bytes one two four =
     rw (ne-eqb (length bytes) 1 one, ne-eqb (length bytes) 2 two, ne-eqb (length bytes) 4 four)
 
 module _ (items : List Item) where
-  -- the counts of the kinds, tested in their order
-  pub items-location : (countOf locationKind items ≡ 1 → ⊥) → rightItems items ≡ false
-  unfolding rightItems
-  items-location h = rw (ne-eqb (countOf locationKind items) 1 h)
-
-  module _ (location : countOf locationKind items ≡ 1) where
-    pub items-offset : (countOf offsetKind items ≡ 1 → ⊥) → rightItems items ≡ false
-    unfolding rightItems
-    items-offset h = rw (location, ne-eqb (countOf offsetKind items) 1 h)
-
-    module _ (offset : countOf offsetKind items ≡ 1) where
-      pub items-binary : (countOf binaryKind items ≡ 1 → ⊥) → rightItems items ≡ false
-      unfolding rightItems
-      items-binary h = rw (location, offset, ne-eqb (countOf binaryKind items) 1 h)
-
-      module _ (binary : countOf binaryKind items ≡ 1) where
-        pub items-lengths : 1 < countOf lengthKind items → rightItems items ≡ false
-        unfolding rightItems
-        items-lengths h = rw (location, offset, binary, lt-leb (countOf lengthKind items) 1 h)
-
-        module _ (lengths : countOf lengthKind items ≤ 1) where
-          pub items-ends : 1 < countOf eofKind items → rightItems items ≡ false
-          unfolding rightItems
-          items-ends h = rw (location, offset, binary, le-leb (countOf lengthKind items) 1 lengths, lt-leb (countOf eofKind items) 1 h)
-
-          pub items-all : countOf eofKind items ≤ 1 → rightItems items ≡ eqb (length items) (countOf lengthKind items + countOf eofKind items + 3)
-          unfolding rightItems
-          items-all h = rw (location, offset, binary, le-leb (countOf lengthKind items) 1 lengths, le-leb (countOf eofKind items) 1 h)
-
   -- a Binary with bytes, and one without
   pub binary-some : 0 < length (valueIn binaryKind items) → rightBinary items ≡ true
   unfolding rightBinary

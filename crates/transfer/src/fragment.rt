@@ -1,21 +1,16 @@
-// What a packet's items say as a fragment, and whether they have a good form.
+// What a packet's parts say as a fragment, and whether they have a good form.
 ghost use mathlib.Core.Option.{some};
 ghost use mathlib.Core.Path.{_≡_};
+ghost use lib.Dec.{ltb};
 ghost use Rattle.packet.specs.Packet.{packetItems};
-ghost use Rattle.transfer.specs.Fragment.{numberOf, rightItems, isLast, rightBinary, formAt, formOf};
-ghost use Rattle.transfer.specs.Steps.{asNumber, asForm};
+ghost use Rattle.transfer.specs.Fragment.{numberOf, rightBinary, formAt, formOf};
+ghost use Rattle.transfer.specs.Steps.{asNumber, asForm, fragmentWith, partsOf};
+use crate::parts::Parts;
+use crate::parts::right_items;
 use crate::state::Declared;
-use packet::BINARY_KIND;
-use packet::EOF_KIND;
-use packet::LENGTH_KIND;
-use packet::LOCATION_KIND;
-use packet::OFFSET_KIND;
-use packet::count;
-use packet::value;
+use packet::Found;
+use packet::value_at;
 use slices::pair;
-
-// How many items each fragment has: Location, Offset, Binary.
-const REQUIRED_ITEMS: usize = 3;
 
 // What the bytes of an Offset or a Length say.
 enum Number {
@@ -23,104 +18,88 @@ enum Number {
     NoNumber,
 }
 
-// What a fragment packet says beside its location and its bytes.
+// A fragment of a good form: where its packet has its Location and its Binary, and what it says
+// beside them.
+pub(crate) struct Fragment {
+    pub(crate) location: Found,
+    pub(crate) binary: Found,
+    pub(crate) offset: usize,
+    pub(crate) declared: Declared,
+    pub(crate) last: bool,
+}
+
+// What a packet's items are as a fragment.
 pub(crate) enum Form {
-    Good {
-        offset: usize,
-        declared: Declared,
-        last: bool,
-    },
+    Good(Fragment),
     Bad,
 }
 
-// The form of the packet's items as a fragment.
-pub(crate) fn read_form(packet: &[u8]) -> Form
-    ensures { λ r. ⌜ r ≡ asForm (formOf (packetItems (now (packet .entry)))) ⌝ }
+// The form of the packet's items as a fragment. `parts` are those of the packet.
+pub(crate) fn read_form(packet: &[u8], parts: Parts) -> Form
+    requires { ⌜ parts ≡ partsOf (now packet) ⌝ }
+    ensures { λ r. ⌜ r ≡ asForm (now (packet .entry)) (formOf (packetItems (now (packet .entry)))) ⌝ }
 {
-    if !right_items(packet) {
+    if !right_items(parts) {
         return Form::Bad;
     }
-    if !packet::valid_location(value(packet, LOCATION_KIND)) {
+    let location = parts.location;
+    if !packet::valid_location(value_at(packet, location)) {
         return Form::Bad;
     }
-    if !right_binary(packet) {
+    if !right_binary(packet, parts) {
         return Form::Bad;
     }
-    let Number::Is(offset) = read_number(value(packet, OFFSET_KIND)) else {
+    let place = parts.offset;
+    let Number::Is(offset) = read_number(value_at(packet, place)) else {
         return Form::Bad;
     };
-    read_length(packet, offset)
+    read_length(packet, parts, offset)
 }
 
 // The form of a fragment at the offset: a Length stands only at offset 0.
-fn read_length(packet: &[u8], offset: usize) -> Form
-    ensures { λ r. ⌜ r ≡ asForm (formAt (packetItems (now (packet .entry))) (some offset)) ⌝ }
+fn read_length(packet: &[u8], parts: Parts, offset: usize) -> Form
+    requires { ⌜ parts ≡ partsOf (now packet) ⌝ }
+    ensures { λ r. ⌜ r ≡ asForm (now (packet .entry)) (formAt (packetItems (now (packet .entry))) (some offset)) ⌝ }
 {
-    let last = is_last(packet);
-    let lengths = count(packet, LENGTH_KIND);
-    if lengths == 0 {
-        return Form::Good {
-            offset,
-            declared: Declared::Unknown,
-            last,
-        };
+    if parts.lengths == 0 {
+        return Form::Good(fragment_of(parts, offset, Declared::Unknown));
     }
     if offset != 0 {
         return Form::Bad;
     }
-    let Number::Is(total) = read_number(value(packet, LENGTH_KIND)) else {
+    let length = parts.length;
+    let Number::Is(total) = read_number(value_at(packet, length)) else {
         return Form::Bad;
     };
-    Form::Good {
+    Form::Good(fragment_of(parts, offset, Declared::Known(total)))
+}
+
+// A fragment of those parts: the last where there is an EOF.
+fn fragment_of(parts: Parts, offset: usize, declared: Declared) -> Fragment
+    ensures { λ r. ⌜ r ≡ fragmentWith parts offset declared (ltb 0 (parts .ends)) ⌝ }
+{
+    let location = parts.location;
+    let binary = parts.binary;
+    Fragment {
+        location,
+        binary,
         offset,
-        declared: Declared::Known(total),
-        last,
+        declared,
+        last: 0 < parts.ends,
     }
-}
-
-// Whether the items are one Location, one Offset, one Binary, at most one Length and at most one
-// EOF, and nothing else.
-fn right_items(packet: &[u8]) -> bool
-    ensures { λ r. ⌜ r ≡ rightItems (packetItems (now (packet .entry))) ⌝ }
-{
-    if count(packet, LOCATION_KIND) != 1 {
-        return false;
-    }
-    if count(packet, OFFSET_KIND) != 1 {
-        return false;
-    }
-    if count(packet, BINARY_KIND) != 1 {
-        return false;
-    }
-    let lengths = count(packet, LENGTH_KIND);
-    let ends = count(packet, EOF_KIND);
-    if 1 < lengths {
-        return false;
-    }
-    if 1 < ends {
-        return false;
-    }
-    let optional = lengths + ends;
-    let known = optional + REQUIRED_ITEMS;
-    packet::count_all(packet) == known
-}
-
-fn is_last(packet: &[u8]) -> bool
-    ensures { λ r. ⌜ r ≡ isLast (packetItems (now (packet .entry))) ⌝ }
-{
-    let ends = count(packet, EOF_KIND);
-    0 < ends
 }
 
 // Whether the Binary has bytes, or else an EOF beside it.
-fn right_binary(packet: &[u8]) -> bool
+fn right_binary(packet: &[u8], parts: Parts) -> bool
+    requires { ⌜ parts ≡ partsOf (now packet) ⌝ }
     ensures { λ r. ⌜ r ≡ rightBinary (packetItems (now (packet .entry))) ⌝ }
 {
-    let bytes = value(packet, BINARY_KIND);
+    let binary = parts.binary;
+    let bytes = value_at(packet, binary);
     if 0 < bytes.len() {
         return true;
     }
-    is_last(packet)
+    0 < parts.ends
 }
 
 // An unsigned number of 1, 2 or 4 bytes, high byte first.

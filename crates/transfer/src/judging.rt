@@ -1,17 +1,20 @@
 // What a packet is to a transfer: the tests of a fragment, in the order of their refusals.
 ghost use mathlib.Core.Path.{_≡_};
 ghost use Rattle.packet.specs.Packet.{packetOf, packetItems};
+ghost use Rattle.transfer.specs.Fragment.{formOf};
 ghost use Rattle.transfer.specs.Transfer.{knownLength, passesLength, isLong, endsEarly, judgeEnd, judgeForm, verdictOf};
-ghost use Rattle.transfer.specs.Steps.{formBy, asVerdict};
+ghost use Rattle.transfer.specs.Steps.{partsOf, asForm, asVerdict};
 use crate::fragment::Form;
+use crate::fragment::Fragment;
 use crate::fragment::read_form;
+use crate::parts::find_parts;
 use crate::state::Declared;
 use crate::state::Transfer;
 use crate::state::goes_on;
 use crate::state::is_of;
-use packet::BINARY_KIND;
+use packet::Found;
 use packet::LOCATION_KIND;
-use packet::value;
+use packet::value_at;
 use refusals::BAD_FRAGMENT;
 use refusals::EARLY_END;
 use refusals::OTHER_LOCATION;
@@ -22,10 +25,11 @@ use refusals::WRONG_OFFSET;
 // The opcode of a fragment packet.
 const FRAGMENT: u8 = 0x0b;
 
-// What a packet is to a transfer: refused, or accepted with the offset of its bytes and what the
-// transfer is then.
+// What a packet is to a transfer: refused, or accepted with the place of its Binary, the offset of
+// its bytes and what the transfer is then.
 pub(crate) enum Verdict {
     Accepted {
+        binary: Found,
         offset: usize,
         next: usize,
         declared: Declared,
@@ -36,13 +40,16 @@ pub(crate) enum Verdict {
 
 // Tests the packet and its opcode, then its form as a fragment. `room` is the file buffer's length.
 pub(crate) fn judge(transfer: Transfer, packet: &[u8], room: usize) -> Verdict
-    ensures { λ r. ⌜ r ≡ asVerdict (verdictOf transfer room (packetOf (now (packet .entry)))) ⌝ }
+    ensures { λ r. ⌜ r ≡ asVerdict (partsOf (now (packet .entry)) .binary) (verdictOf transfer room (packetOf (now (packet .entry)))) ⌝ }
 {
-    match packet::read_packet(packet) {
+    let locations = packet::look_for(packet, LOCATION_KIND);
+    let reading = locations.reading;
+    match reading {
         packet::Reading::Refused(number) => Verdict::Refused(number),
         packet::Reading::Packet { opcode, id: _ } => {
             if opcode == FRAGMENT {
-                let form = read_form(packet);
+                let parts = find_parts(packet, locations);
+                let form = read_form(packet, parts);
                 judge_form(transfer, packet, room, form)
             } else {
                 Verdict::Refused(OTHER_OPCODE)
@@ -51,47 +58,49 @@ pub(crate) fn judge(transfer: Transfer, packet: &[u8], room: usize) -> Verdict
     }
 }
 
-// Tests a fragment of that form against the transfer: location, offset, then where it ends.
+// Tests the packet, whose form is given, against the transfer: location, offset, then where it ends.
 fn judge_form(transfer: Transfer, packet: &[u8], room: usize, form: Form) -> Verdict
-    ensures { λ r. ⌜ r ≡ asVerdict (judgeForm transfer room (packetItems (now (packet .entry))) (formBy form)) ⌝ }
+    requires { ⌜ form ≡ asForm (now packet) (formOf (packetItems (now packet))) ⌝ }
+    ensures { λ r. ⌜ r ≡ asVerdict (partsOf (now (packet .entry)) .binary) (judgeForm transfer room (packetItems (now (packet .entry))) (formOf (packetItems (now (packet .entry))))) ⌝ }
 {
-    let Form::Good {
-        offset,
-        declared,
-        last,
-    } = form
-    else {
+    let Form::Good(fragment) = form else {
         return Verdict::Refused(BAD_FRAGMENT);
     };
-    let location = value(packet, LOCATION_KIND);
-    let ours = is_of(transfer, location);
+    let location = fragment.location;
+    let ours = is_of(transfer, value_at(packet, location));
     if !ours {
         return Verdict::Refused(OTHER_LOCATION);
     }
-    let next = goes_on(transfer, offset);
+    let next = goes_on(transfer, fragment.offset);
     if !next {
         return Verdict::Refused(WRONG_OFFSET);
     }
-    let bytes = value(packet, BINARY_KIND);
+    let binary = fragment.binary;
+    let bytes = value_at(packet, binary);
+    let declared = fragment.declared;
     let before = transfer.declared;
     let known = known_length(declared, before);
-    judge_end(room, offset, bytes.len(), known, last)
+    judge_end(room, fragment, bytes.len(), known)
 }
 
-// Tests where a fragment ends.
-fn judge_end(room: usize, offset: usize, count: usize, declared: Declared, last: bool) -> Verdict
-    ensures { λ r. ⌜ r ≡ asVerdict (judgeEnd room offset count declared last) ⌝ }
+// Tests where a fragment of `count` bytes ends. `declared` is the length that is known with it.
+fn judge_end(room: usize, fragment: Fragment, count: usize, declared: Declared) -> Verdict
+    ensures { λ r. ⌜ r ≡ asVerdict (fragment .binary) (judgeEnd room (fragment .offset) count declared (fragment .last)) ⌝ }
 {
+    let offset = fragment.offset;
     let long = is_long(room, offset, count, declared);
     if long {
         return Verdict::Refused(PAST_LENGTH);
     }
+    let last = fragment.last;
     let next = offset + count;
     let early = ends_early(declared, last, next);
     if early {
         return Verdict::Refused(EARLY_END);
     }
+    let binary = fragment.binary;
     Verdict::Accepted {
+        binary,
         offset,
         next,
         declared,

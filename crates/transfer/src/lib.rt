@@ -2,6 +2,7 @@
 // file buffer.
 mod fragment;
 mod judging;
+mod parts;
 mod state;
 mod taking;
 

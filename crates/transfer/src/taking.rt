@@ -6,8 +6,6 @@ use crate::judging::judge;
 use crate::state::Transfer;
 use crate::state::advanced;
 use crate::state::fresh;
-use packet::BINARY_KIND;
-use packet::value;
 use refusals::BAD_FRAGMENT;
 
 pub enum Answer {
@@ -44,12 +42,13 @@ pub fn take(transfer: Transfer, packet: &[u8], file: &mut [u8]) -> Outcome
     match judge(transfer, packet, file.len()) {
         Verdict::Refused(number) => refused(transfer, number),
         Verdict::Accepted {
+            binary,
             offset,
             next,
             declared,
             last,
         } => {
-            let bytes = value(packet, BINARY_KIND);
+            let bytes = packet::value_at(packet, binary);
             slices::put(file, offset, bytes);
             Outcome {
                 transfer: advanced(transfer, next, declared, last),

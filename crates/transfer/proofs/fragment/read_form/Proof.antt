@@ -11,23 +11,38 @@ use Rattle.packet.specs.Names.{validLocation}
 use Rattle.packet.specs.Packet.{packetItems}
 use Rattle.transfer.specs.Fragment.{numberOf, rightItems, rightLocation, formAt, formOf}
 use Rattle.transfer.specs.Steps.{asNumber, asForm}
+use Rattle.transfer.proofs.PartLaws.{right-by-parts, location-value, offset-value}
 use Rattle.transfer.proofs.FormLaws.{form-items, form-location, form-binary, form-at}
 use Rattle.transfer.proofs.StepLaws.{number-told, no-number-told}
 use borrow.Author.Needs.{needs}
 use Rattle.transfer.proofs.fragment.read_form.Statement.{statement}
 use Rattle.transfer.proofs.fragment.read_form.Tie as tie
 
-abbrev items : tie.After-right-items → List Item
-items c = packetItems (c .before .before .args .packet .now)
+abbrev bytes : tie.Start → List ℕ
+bytes c = c .args .packet .now
 
-right : (c : tie.Else1) → rightItems (items (c .before)) ≡ true
-right c = sym (c .before .right-items .ensures) ∙ not-false _ (c .if1 .left)
+abbrev items : tie.Start → List Item
+items c = packetItems (bytes c)
 
-located : (c : tie.After-valid-location) → c .valid-location .result ≡ rightLocation (items (c .before .before .before))
+-- the tests, in their order
+counted : (c : tie.After-right-items) → let start = c .before .before in c .right-items .result ≡ rightItems (items start)
+counted c =
+    let start = c .before .before in
+    c .right-items .ensures ∙ right-by-parts (bytes start) (start .args .parts) (start .pre)
+
+abbrev start : tie.Else1 → tie.Start
+start c = c .before .before .before
+
+right : (c : tie.Else1) → rightItems (items (start c)) ≡ true
+right c = sym (counted (c .before)) ∙ not-false _ (c .if1 .left)
+
+located : (c : tie.After-valid-location) → let start = start (c .before .before) in c .valid-location .result ≡ rightLocation (items start)
 unfolding rightLocation
-located c = c .valid-location .ensures ∙ ap validLocation (c .before .value .ensures)
+located c =
+    let start = start (c .before .before) in
+    c .valid-location .ensures ∙ ap validLocation (c .before .value-at .ensures ∙ location-value (bytes start) (start .args .parts) (start .pre))
 
-location : (c : tie.Else2) → rightLocation (items (c .before .before .before .before)) ≡ true
+location : (c : tie.Else2) → rightLocation (items (start (c .before .before .before))) ≡ true
 location c = sym (located (c .before)) ∙ not-false _ (c .if2 .left)
 
 -- the tests that were passed where the Offset has been read
@@ -40,28 +55,31 @@ second c = third c .before .before
 abbrev first : tie.After-read-number → tie.Else1
 first c = second c .before .before .before
 
-abbrev items-read : tie.After-read-number → List Item
-items-read c = items (first c .before)
-
 -- what the Offset says
-number : (c : tie.After-read-number) → c .read-number .result ≡ asNumber (numberOf (valueIn offsetKind (items-read c)))
-number c = c .read-number .ensures ∙ ap (λ (bytes : List ℕ). asNumber (numberOf bytes)) (c .before .value2 .ensures)
+number : (c : tie.After-read-number) → c .read-number .result ≡ asNumber (numberOf (valueIn offsetKind (items (start (first c)))))
+number c =
+    let start = start (first c) in
+    c .read-number .ensures
+    ∙ ap (λ (value : List ℕ). asNumber (numberOf value)) (c .before .value-at2 .ensures ∙ offset-value (bytes start) (start .args .parts) (start .pre))
 
 -- past the three tests the form goes by the Offset
-formed : (c : tie.After-read-number) (offset : Option ℕ) → numberOf (valueIn offsetKind (items-read c)) ≡ offset
-    → asForm (formAt (items-read c) offset) ≡ asForm (formOf (items-read c))
+formed : (c : tie.After-read-number) (offset : Option ℕ) → (let start = start (first c) in numberOf (valueIn offsetKind (items start)) ≡ offset
+    → asForm (bytes start) (formAt (items start) offset) ≡ asForm (bytes start) (formOf (items start)))
 formed c offset said =
+    let start = start (first c) in
     let binary = sym (third c .before .right-binary .ensures) ∙ not-false _ (third c .if3 .left) in
-    sym (ap asForm (form-at (items-read c) (right (first c)) (location (second c)) binary ∙ ap (formAt (items-read c)) said))
+    sym (ap (asForm (bytes start)) (form-at (items start) (right (first c)) (location (second c)) binary ∙ ap (formAt (items start)) said))
 
 right-items-requires : tie.Need-right-items-requires
 right-items-requires c κs = search needs
 
 returns : tie.Need-returns
-returns c = sym (ap asForm (form-items (items (c .before)) (sym (c .before .right-items .ensures) ∙ not-true _ (c .if1 .taken))))
+returns c =
+    let start = c .before .before .before in
+    sym (ap (asForm (bytes start)) (form-items (items start) (sym (counted (c .before)) ∙ not-true _ (c .if1 .taken))))
 
-value-requires : tie.Need-value-requires
-value-requires c κs = search needs
+value-at-requires : tie.Need-value-at-requires
+value-at-requires c κs = search needs
 
 valid-location-requires : tie.Need-valid-location-requires
 valid-location-requires c κs = search needs
@@ -69,7 +87,7 @@ valid-location-requires c κs = search needs
 returns-2 : tie.Need-returns-2
 returns-2 c =
     let test = c .before .before .before in
-    sym (ap asForm (form-location (items (test .before)) (right test) (sym (located (c .before)) ∙ not-true _ (c .if2 .taken))))
+    sym (ap (asForm (bytes (start test))) (form-location (items (start test)) (right test) (sym (located (c .before)) ∙ not-true _ (c .if2 .taken))))
 
 right-binary-requires : tie.Need-right-binary-requires
 right-binary-requires c κs = search needs
@@ -78,10 +96,11 @@ returns-3 : tie.Need-returns-3
 returns-3 c =
     let later = c .before .before in
     let test = later .before .before .before in
-    sym (ap asForm (form-binary (items (test .before)) (right test) (location later) (sym (c .before .right-binary .ensures) ∙ not-true _ (c .if3 .taken))))
+    let empty = sym (c .before .right-binary .ensures) ∙ not-true _ (c .if3 .taken) in
+    sym (ap (asForm (bytes (start test))) (form-binary (items (start test)) (right test) (location later) empty))
 
-value-requires-2 : tie.Need-value-requires-2
-value-requires-2 c κs = search needs
+value-at-requires-2 : tie.Need-value-at-requires-2
+value-at-requires-2 c κs = search needs
 
 read-number-requires : tie.Need-read-number-requires
 read-number-requires c κs = search needs
@@ -113,12 +132,12 @@ read-form-spec =
     (tie.spec
     right-items-requires
     returns
-    value-requires
+    value-at-requires
     valid-location-requires
     returns-2
     right-binary-requires
     returns-3
-    value-requires-2
+    value-at-requires-2
     read-number-requires
     enum-known-offset
     enum-told

@@ -5,58 +5,74 @@ use mathlib.Core.List.{List}
 use mathlib.Core.Option.{Option, none, some}
 use Prim.Native.Nat.{ℕ}
 use Rattle.packet.specs.ItemTypes.{lengthKind}
-use Rattle.packet.specs.Items.{Item, valueIn}
+use Rattle.packet.specs.Items.{Item, countOf, valueIn}
 use Rattle.packet.specs.Packet.{packetItems}
 use Rattle.transfer.specs.Fragment.{numberOf, isLast, declaring, formAt}
 use Rattle.transfer.specs.Steps.{asNumber, asForm}
+use Rattle.transfer.specs.declared.state.Declared.the-variants.{Unknown, Known}
+use Rattle.transfer.proofs.PartLaws.{lengths-by-parts, good-by-parts, length-value}
 use Rattle.transfer.proofs.FormLaws.{at-undeclared, at-late, at-declared}
 use Rattle.transfer.proofs.StepLaws.{number-told, no-number-told}
 use borrow.Author.Needs.{needs}
 use Rattle.transfer.proofs.fragment.read_length.Statement.{statement}
 use Rattle.transfer.proofs.fragment.read_length.Tie as tie
 
-abbrev items : tie.After-is-last → List Item
-items c = packetItems (c .before .before .args .packet .now)
+-- the first place, where the parts are those of the packet
+abbrev start : tie.Else1 → tie.Start
+start c = c .before .before .before
 
-abbrev offset : tie.After-is-last → ℕ
-offset c = c .before .before .args .offset
+abbrev bytes : tie.Start → List ℕ
+bytes c = c .args .packet .now
 
--- the place where the Length has been read, and the first place before it
-abbrev first : tie.After-read-number → tie.After-is-last
-first c = c .before .before .before .before .before
+abbrev items : tie.Start → List Item
+items c = packetItems (bytes c)
+
+-- where the Length has been read, it stands at offset 0
+abbrev some-length : tie.After-read-number → tie.Else1
+some-length c = c .before .before .before
+
+abbrev first : tie.After-read-number → tie.Start
+first c = start (some-length c)
+
+-- there is a Length
+lengths : (c : tie.Else1) → countOf lengthKind (items (start c)) ≡ 0 → ⊥
+lengths c no-length =
+    let args = start c .args in
+    c .if1 .left (lengths-by-parts (args .packet .now) (args .parts) (start c .pre) ∙ no-length)
 
 -- what the Length says
 number : (c : tie.After-read-number) → c .read-number .result ≡ asNumber (numberOf (valueIn lengthKind (items (first c))))
-number c = c .read-number .ensures ∙ ap (λ (bytes : List ℕ). asNumber (numberOf bytes)) (c .before .value .ensures)
+number c =
+    let args = first c .args in
+    c .read-number .ensures
+    ∙ ap (λ (value : List ℕ). asNumber (numberOf value)) (c .before .value-at .ensures ∙ length-value (args .packet .now) (args .parts) (first c .pre))
 
--- the Length stands at offset 0
 declared : (c : tie.After-read-number) (length : Option ℕ) → numberOf (valueIn lengthKind (items (first c))) ≡ length
-    → asForm (declaring (offset (first c)) (isLast (items (first c))) length) ≡ asForm (formAt (items (first c)) (some (offset (first c))))
+    → declaring (first c .args .offset) (isLast (items (first c))) length ≡ formAt (items (first c)) (some (first c .args .offset))
 declared c length said =
-    let late = c .before .before in
-    let test = late .before in
-    let at-start = at-declared (items (first c)) (offset (first c)) (λ none. test .if1 .left (test .before .count .ensures ∙ none)) (late .if2 .left) in
-    sym (ap asForm (at-start ∙ ap (declaring (offset (first c)) (isLast (items (first c)))) said))
+    let offset = first c .args .offset in
+    let at-start = at-declared (items (first c)) offset (lengths (some-length c)) (c .before .before .if2 .left) in
+    sym (at-start ∙ ap (declaring offset (isLast (items (first c)))) said)
 
-is-last-requires : tie.Need-is-last-requires
-is-last-requires c κs = search needs
-
-count-requires : tie.Need-count-requires
-count-requires c κs = search needs
+fragment-of-requires : tie.Need-fragment-of-requires
+fragment-of-requires c κs = search needs
 
 returns : tie.Need-returns
 returns c =
-    let last = c .before .before in
-    rw (last .is-last .ensures) (sym (ap asForm (at-undeclared (items last) (offset last) (sym (c .before .count .ensures) ∙ c .if1 .taken))))
+    let test = c .before in
+    let start = test .before .before .before in
+    let args = start .args in
+    let none = sym (lengths-by-parts (bytes start) (args .parts) (start .pre)) ∙ test .if1 .taken in
+    good-by-parts (bytes start) (args .parts) (start .pre) (c .fragment-of .result) (args .offset) Unknown (c .fragment-of .ensures)
+    ∙ sym (ap (asForm (bytes start)) (at-undeclared (items start) (args .offset) none))
 
 returns-2 : tie.Need-returns-2
 returns-2 c =
     let test = c .before in
-    let last = test .before .before in
-    sym (ap asForm (at-late (items last) (offset last) (λ none. test .if1 .left (test .before .count .ensures ∙ none)) (c .if2 .taken)))
+    sym (ap (asForm (bytes (start test))) (at-late (items (start test)) (start test .args .offset) (lengths test) (c .if2 .taken)))
 
-value-requires : tie.Need-value-requires
-value-requires c κs = search needs
+value-at-requires : tie.Need-value-at-requires
+value-at-requires c κs = search needs
 
 read-number-requires : tie.Need-read-number-requires
 read-number-requires c κs = search needs
@@ -71,26 +87,31 @@ returns-3 : tie.Need-returns-3
 unfolding declaring
 returns-3 c =
     let read = c .before .before in
-    declared read none (no-number-told _ (sym (number read) ∙ c .enum-told .given .1))
+    ap (asForm (bytes (first read))) (declared read none (no-number-told _ (sym (number read) ∙ c .enum-told .given .1)))
+
+fragment-of-requires-2 : tie.Need-fragment-of-requires-2
+fragment-of-requires-2 c κs = search needs
 
 returns-4 : tie.Need-returns-4
 unfolding declaring
 returns-4 c =
-    let read = c .before .before .before in
-    let told = c .before .total .given in
-    rw (first read .is-last .ensures) (declared read (some (told .0 .0)) (number-told _ (told .0 .0) (sym (number read) ∙ told .1)))
+    let read = c .before .before .before .before in
+    let told = c .before .before .total .given in
+    let args = first read .args in
+    good-by-parts (bytes (first read)) (args .parts) (first read .pre) (c .fragment-of2 .result) (args .offset) (Known (told .0 .0)) (c .fragment-of2 .ensures)
+    ∙ ap (asForm (bytes (first read))) (declared read (some (told .0 .0)) (number-told _ (told .0 .0) (sym (number read) ∙ told .1)))
 
 pub read-length-spec : {M : Type 1} → statement M
 read-length-spec =
     tie.close
     (tie.spec
-    is-last-requires
-    count-requires
+    fragment-of-requires
     returns
     returns-2
-    value-requires
+    value-at-requires
     read-number-requires
     enum-known-total
     enum-told
     returns-3
+    fragment-of-requires-2
     returns-4)

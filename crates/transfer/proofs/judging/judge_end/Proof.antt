@@ -16,13 +16,13 @@ returns : tie.Need-returns
 unfolding judgeEnd
 returns c = let long = sym (c .before .is-long .ensures) ∙ c .if1 .taken in rw long
 
-short : (c : tie.Else1) → isLong (c .before .before .args .room) (c .before .before .args .offset) (c .before .before .args .count) (c .before .before .args .declared) ≡ false
+short : (c : tie.Else1) → let args = c .before .before .args in isLong (args .room) (args .fragment .offset) (args .count) (args .declared) ≡ false
 short c = sym (c .before .is-long .ensures) ∙ c .if1 .left
 
 add-next : tie.Need-add-next
 add-next c =
     let args = c .before .before .args in
-    let fits = short-fits (args .room) (args .offset) (args .count) (args .declared) (short c) in
+    let fits = short-fits (args .room) (args .fragment .offset) (args .count) (args .declared) (short c) in
     omega arith
 
 ends-early-requires : tie.Need-ends-early-requires

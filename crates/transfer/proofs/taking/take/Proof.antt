@@ -3,6 +3,8 @@ use mathlib.Core.Path.{sym, ap, _∙_}
 use mathlib.Core.List.{List}
 use Prim.Native.Nat.{ℕ}
 use Rattle.slices.specs.Put.{putAt}
+use Rattle.packet.specs.ItemTypes.{binaryKind}
+use Rattle.packet.proofs.FoundLaws.{value-found}
 use Rattle.transfer.proofs.JudgeLaws.{takes-nothing, takes-fragment}
 use Rattle.transfer.proofs.StepLaws.{accepted-told, refused-told}
 use borrow.Author.Needs.{needs}
@@ -18,11 +20,11 @@ enum-known-number c = search needs
 refused-requires : tie.Need-refused-requires
 refused-requires c κs = search needs
 
-enum-known-offset : tie.Need-enum-known-offset
-enum-known-offset c = search needs
+enum-known-binary : tie.Need-enum-known-binary
+enum-known-binary c = search needs
 
-value-requires : tie.Need-value-requires
-value-requires c κs = search needs
+value-at-requires : tie.Need-value-at-requires
+value-at-requires c κs = search needs
 
 put-requires : tie.Need-put-requires
 put-requires c κs = search needs
@@ -35,7 +37,7 @@ returns c =
     let told = c .before .before .number .given in
     let judged = c .before .before .before .before in
     let args = judged .before .before .before .args in
-    rw (c .refused .ensures) (takes-nothing (args .transfer) (args .packet .now) (args .file .now) (told .0 .0) (refused-told _ (told .0 .0) (sym (judged .judge .ensures) ∙ told .1)))
+    rw (c .refused .ensures) (takes-nothing (args .transfer) (args .packet .now) (args .file .now) (told .0 .0) (refused-told _ _ (told .0 .0) (sym (judged .judge .ensures) ∙ told .1)))
 
 same-length : tie.Need-same-length
 same-length c = search needs
@@ -44,13 +46,18 @@ returns-2 : tie.Need-returns-2
 returns-2 c =
     let put = c .before .before .before in
     let value = put .before .before in
-    let told = value .before .before .offset .given in
+    let told = value .before .before .binary .given in
     let judged = value .before .before .before .before in
     let args = judged .before .before .before .args in
-    let written = put .put .ensures ∙ ap (λ (bytes : List ℕ). putAt (args .file .now) (told .0 .0) bytes) (value .value .ensures) in
-    let accepted = accepted-told _ (told .0 .0) (told .0 .1 .0) (told .0 .1 .1 .0) (told .0 .1 .1 .1 .0) (sym (judged .judge .ensures) ∙ told .1) in
+    let offset = told .0 .1 .0 in
+    let next = told .0 .1 .1 .0 in
+    let declared = told .0 .1 .1 .1 .0 in
+    let last = told .0 .1 .1 .1 .1 .0 in
+    let accepted = accepted-told _ _ (told .0 .0) offset next declared last (sym (judged .judge .ensures) ∙ told .1) in
+    let found = value .value-at .ensures ∙ value-found (args .packet .now) binaryKind (told .0 .0) (sym (accepted .binary-at)) in
+    let written = put .put .ensures ∙ ap (λ (bytes : List ℕ). putAt (args .file .now) offset bytes) found in
     rw (c .advanced .ensures)
-    (takes-fragment (args .transfer) (args .packet .now) (args .file .now) (put .put .last .0) (told .0 .0) (told .0 .1 .0) (told .0 .1 .1 .0) (told .0 .1 .1 .1 .0) accepted written)
+    (takes-fragment (args .transfer) (args .packet .now) (args .file .now) (put .put .last .0) offset next declared last (accepted .said) written)
 
 pub take-spec : {M : Type 1} → statement M
 take-spec =
@@ -59,8 +66,8 @@ take-spec =
     judge-requires
     enum-known-number
     refused-requires
-    enum-known-offset
-    value-requires
+    enum-known-binary
+    value-at-requires
     put-requires
     advanced-requires
     returns

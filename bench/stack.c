@@ -2,22 +2,16 @@
  * The stack that each call needs: it runs on a painted stack of its own, and the deepest byte that
  * lost its paint counts. What a call of an empty function needs is taken off.
  */
-#define _XOPEN_SOURCE 700
-
+#include "painted.h"
 #include "workload.h"
 
 #include <stdio.h>
 #include <stdlib.h>
-#include <string.h>
-#include <ucontext.h>
 
 #define STACK_SIZE (1 << 20)
 #define MEASURED (WORKLOADS + 1)
 
-static unsigned char stack[STACK_SIZE];
-static ucontext_t here, there;
-
-/* makecontext passes no pointers, so the call to run stands here. */
+/* The call to run stands here, as a call on a stack of its own is passed nothing. */
 static workload_call *current_call;
 static const struct workload *current_workload;
 static volatile uint64_t sink;
@@ -32,38 +26,17 @@ static void run_current(void)
     sink = current_call(current_workload);
 }
 
-/* The deepest use of the painted stack, in bytes. */
-static size_t depth(workload_call *call, const struct workload *workload, unsigned char paint)
-{
-    current_call = call;
-    current_workload = workload;
-    memset(stack, paint, sizeof stack);
-    if (getcontext(&there) != 0)
-        exit(EXIT_FAILURE);
-    there.uc_stack.ss_sp = stack;
-    there.uc_stack.ss_size = sizeof stack;
-    there.uc_link = &here;
-    makecontext(&there, run_current, 0);
-    if (swapcontext(&here, &there) != 0)
-        exit(EXIT_FAILURE);
-    size_t clean = 0;
-    while (clean < sizeof stack && stack[clean] == paint)
-        clean++;
-    return sizeof stack - clean;
-}
-
-/* The most that the call needs on any workload. Two paints, as a call may leave a byte like one.
- * The first run, uncounted, lets the loader bind what the call uses. */
+/* The most that the call needs on any workload. The first run, uncounted, lets the loader bind what
+ * the call uses. */
 static size_t most(workload_call *call, const struct workload workloads[MEASURED])
 {
-    static const unsigned char paints[] = {0x5a, 0xa5};
     size_t deepest = 0;
     for (int i = 0; i < MEASURED; i++) {
-        sink = call(&workloads[i]);
-        for (size_t j = 0; j < sizeof paints; j++) {
-            size_t used = depth(call, &workloads[i], paints[j]);
-            deepest = used > deepest ? used : deepest;
-        }
+        current_call = call;
+        current_workload = &workloads[i];
+        run_current();
+        size_t used = painted_depth(run_current, STACK_SIZE);
+        deepest = used > deepest ? used : deepest;
     }
     return deepest;
 }

@@ -53,6 +53,7 @@ TICK = field(3)
 H1 = item(1, b"h1")
 CENTS = item(0x16, b"\x00\x00\x0d\x7a")
 EOF = item(0x14, b"")
+EMPTY = item(5, b"")
 UPDATE = packet(H1, CENTS)
 REPLY = "reply 7e02007b6d7e"
 REPLY_1 = "reply 7e02016b4c7e"
@@ -132,6 +133,10 @@ def cases():
     yield "refusal_13", *refused_packet(packet(H1, item(2, b"\x00\x00\x01")))
     yield "refusal_14", *refused_packet(packet(item(1, b"h9"), CENTS))
     yield "longest_payload", *refused_packet(bytes(383))
+    yield "items_189", *refused_packet(packet(*[EMPTY] * 189))
+    yield "items_before_the_name", names(b"h1") + received(frame(1, 0, packet(*[EMPTY] * 184, H1, CENTS))), [
+        REPLY, "h1 current 3450 0"] + counts(new=1)
+    yield "last_of_many_items_cut", *refused_packet(packet(*[EMPTY] * 184, H1, CENTS)[:-1])
     yield "end_mark", *end_mark(packet(EOF))
     yield "two_eof_items", *end_mark(packet(EOF, EOF))
     yield "eof_beside_a_value", *end_mark(packet(CENTS, EOF))

@@ -47,7 +47,7 @@ impl batches::Case for Case {
         vec![Step {
             line: self.line(label),
             wanted,
-            class: Some(class),
+            classes: vec![class],
         }]
     }
 }

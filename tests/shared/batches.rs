@@ -9,12 +9,12 @@ use std::fmt::Debug;
 /// program reads.
 const BATCH_BYTES: usize = 60_000;
 
-/// A line for the program, all that it has to print for it, and of which kind that answer is. A line
-/// that only prepares the next ones is of no kind.
+/// A line for the program, all that it has to print for it, and what kinds of answer that is. A line
+/// that only prepares the next ones has none.
 pub struct Step<Class> {
     pub line: String,
     pub wanted: String,
-    pub class: Option<Class>,
+    pub classes: Vec<Class>,
 }
 
 /// One or more lines that belong together.
@@ -92,8 +92,8 @@ pub fn run<C: Case>(
     let mut batch = Batch::new(subject);
     for (number, case) in cases.enumerate() {
         let steps = case.steps(&number.to_string());
-        for class in steps.iter().filter_map(|step| step.class) {
-            tally.add(class);
+        for step in steps.iter().filter(|step| !step.classes.is_empty()) {
+            tally.add(&step.classes);
         }
         batch.add(steps);
         if batch.bytes >= BATCH_BYTES {

@@ -25,6 +25,8 @@ pub enum Case {
     Value { kind: u8, bytes: Vec<u8> },
     /// A packet read by a board of h1 and h2.
     Reading(Vec<u8>),
+    /// A line of this key with no bytes, of which the first would be a type.
+    NoBytes(char),
     /// All that one transfer meets.
     Transfer(Vec<Event>),
 }
@@ -53,6 +55,11 @@ impl batches::Case for Case {
                 line: batches::line('r', label, packet),
                 wanted: format!("{label}: {}", reading(packet)),
                 classes: classes::of_reading(packet),
+            },
+            Case::NoBytes(key) => Step {
+                line: batches::line(*key, label, &[]),
+                wanted: format!("not run, too few bytes: {label}\n"),
+                classes: Vec::new(),
             },
             Case::Transfer(events) => return receiver::steps(events, label),
         };

@@ -81,6 +81,19 @@ impl Receiver {
         transfer.next = next;
     }
 
+    /// What is printed behind the label.
+    fn printed(&self, event: &Event, answer: Result<(), Refusal>) -> String {
+        let answer = match answer {
+            Ok(()) => "accepted".to_string(),
+            Err(refusal) => format!("refused {}", refusal.number()),
+        };
+        let transfer = self.shown_transfer();
+        match event {
+            Event::Start(_) => format!("{answer}, {transfer}"),
+            _ => format!("{answer}, {transfer}, file {}", self.shown_file()),
+        }
+    }
+
     fn shown_transfer(&self) -> String {
         let fresh = (0, None, false);
         let state = self.transfer.as_ref();
@@ -102,41 +115,35 @@ impl Receiver {
 pub fn steps(events: &[Event], label: &str) -> Vec<Step<Class>> {
     let mut receiver = Receiver::new();
     let numbered = events.iter().enumerate();
-    let steps =
-        numbered.map(|(number, event)| step(&mut receiver, event, &format!("{label}.{number}")));
+    let steps = numbered.map(|(number, event)| {
+        let label = format!("{label}.{number}");
+        step(&mut receiver, event, &label)
+    });
     steps.collect()
 }
 
+/// What only prepares the next events prints nothing.
 fn step(receiver: &mut Receiver, event: &Event, label: &str) -> Step<Class> {
     let (key, bytes) = written(event);
+    let line = batches::line(key, label, &bytes);
     let before = match event {
         Event::Alone(_) => transfer::start(LOC).ok(),
         _ => receiver.transfer.clone(),
     };
-    let answer = receiver.meet(event);
-    let classes = match (event, answer) {
-        (Event::Start(_), Some(answer)) => vec![Class::Start(answer.is_ok())],
-        (Event::Give(packet) | Event::Alone(packet), Some(answer)) => {
-            classes::of_fragment(before.as_ref(), packet, receiver.room, answer)
-        }
-        _ => Vec::new(),
-    };
-    let file = match event {
-        Event::Give(_) | Event::Alone(_) => format!(", file {}", receiver.shown_file()),
-        _ => String::new(),
-    };
-    let wanted = answer.map(|answer| {
-        let answer = match answer {
-            Ok(()) => "accepted".to_string(),
-            Err(refusal) => format!("refused {}", refusal.number()),
+    let Some(answer) = receiver.meet(event) else {
+        return Step {
+            line,
+            wanted: String::new(),
+            classes: Vec::new(),
         };
-        let transfer = receiver.shown_transfer();
-        format!("{label}: {answer}, {transfer}{file}\n")
-    });
+    };
     Step {
-        line: batches::line(key, label, &bytes),
-        wanted: wanted.unwrap_or_default(),
-        classes,
+        line,
+        wanted: format!("{label}: {}\n", receiver.printed(event, answer)),
+        classes: match event {
+            Event::Start(_) => vec![Class::Start(answer.is_ok())],
+            _ => classes::of_fragment(before.as_ref(), &bytes, receiver.room, answer),
+        },
     }
 }
 

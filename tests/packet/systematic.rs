@@ -13,14 +13,15 @@ pub fn packet_cases() -> impl Iterator<Item = Case> {
         .chain(every_item_length())
         .chain(many_items())
         .chain(every_head());
-    packets.flat_map(|packet| {
+    let cases = packets.flat_map(|packet| {
         let looks = [NAME, EOF, 0x00].map(|kind| Case::Look {
             kind,
             packet: packet.clone(),
         });
         let parts = Case::Parts(packet);
         looks.into_iter().chain([parts])
-    })
+    });
+    cases.chain([Case::NoBytes('k')])
 }
 
 pub fn board_cases() -> impl Iterator<Item = Case> {
@@ -29,7 +30,8 @@ pub fn board_cases() -> impl Iterator<Item = Case> {
         .chain(every_value_item())
         .chain(every_name())
         .chain(every_head());
-    packets.map(Case::Reading).chain(every_value())
+    let readings = packets.map(Case::Reading);
+    readings.chain(every_value()).chain([Case::NoBytes('v')])
 }
 
 /// Each string of up to `longest` of the choices.

@@ -108,7 +108,7 @@ fn any_item(random: &mut Random, longest: usize) -> Part {
     (kind, bytes(random, length))
 }
 
-/// About as many items as a payload has, or as a line has: 189 and 198 of them are empty.
+/// About as many empty items as fill a payload, or the line.
 fn crowd(random: &mut Random, most: usize) -> Draft {
     let count = random.one_of(&[188, 189, 189, 190, 195, (most - 4) / 2]);
     let usual = kind(random);
@@ -125,13 +125,11 @@ fn filled(random: &mut Random, most: usize) -> Draft {
     let length = random.one_of(&[382, 383, 384, most - 1, most]);
     let mut draft = any_items(random, length - 2);
     while draft.len() < length {
+        // What is left behind an item has room for another one.
         let left = length - draft.len() - 2;
-        let last = left <= 255;
-        // Never one byte alone: it would be no item.
-        let taken = if last { left } else { left.min(250) };
-        draft
-            .items
-            .push((random.one_of(&[BINARY, NAME, 0x05]), bytes(random, taken)));
+        let taken = if left > 255 { 250 } else { left };
+        let kind = random.one_of(&[BINARY, NAME, 0x05]);
+        draft.items.push((kind, bytes(random, taken)));
     }
     draft
 }

@@ -42,7 +42,7 @@ pub enum Form {
     OneFollowed,
     TwoInARow,
     Several,
-    /// So many items that they nearly fill a payload.
+    /// As many items as a payload can have, or more.
     Crowded,
 }
 
@@ -76,6 +76,7 @@ pub enum Taken {
     UnknownLength,
 }
 
+/// So many empty items fill a payload.
 const CROWD: usize = 189;
 
 const IDS: [u16; 5] = [0, 1, 255, 256, 65_535];

@@ -22,7 +22,7 @@ BENCH_CFLAGS := -std=c99 -O3 $(WARNINGS) -Iinclude
 HEADERS := $(wildcard include/*.h $(addsuffix /*.h,tests/c tests/fuzz bench examples/firmware))
 C_TESTS := known_answers writer reader header collector line
 TESTS := $(C_TESTS) serial reference differential replay_reference replay_test \
-	history_text history_text_test ash_reference ash_test
+	history_text history_text_test ash_reference ash_test packet_reference packet_test
 PLAIN := bench/plain_frame.c bench/plain_crc.c
 MEASURED := bench/workload.c $(PLAIN)
 RECEIVER ?= target/bin/receive_bench
@@ -137,6 +137,14 @@ $(OUT)/ash_test: $(ASH_TEST) | $(OUT)
 $(OUT)/ash_reference: $(ASH_TEST) crates/run_cases/stdin crates/run_cases/stdout | $(OUT)
 	$(call rust,--test)
 
+PACKET_TEST := tests/packet/main.rs $(wildcard tests/packet/*.rs) $(RUST_SHARED)
+
+$(OUT)/packet_test: $(PACKET_TEST) | $(OUT)
+	$(call rust)
+
+$(OUT)/packet_reference: $(PACKET_TEST) crates/run_cases/stdin crates/run_cases/stdout | $(OUT)
+	$(call rust,--test)
+
 CAPTURE := examples/captures/line
 CASE_6 := examples/histories/case_6
 
@@ -158,6 +166,8 @@ test: $(addprefix $(OUT)/,$(TESTS)) $(OUT)/display $(REPLAY) $(CASES)
 	@$(OUT)/replay_test $(REPLAY) 20000 1
 	@$(OUT)/ash_reference --quiet
 	@$(OUT)/ash_test $(CASES)
+	@$(OUT)/packet_reference --quiet
+	@$(OUT)/packet_test $(CASES)
 	@tests/mutants/written.py --apply-only
 	@tests/mutants/table.py --check
 

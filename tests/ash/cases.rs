@@ -2,6 +2,7 @@
 //! it has to print.
 
 use crate::ash::{read_frame, write_frame, Refusal};
+use crate::batches::{self, Step};
 use crate::classes::{Class, Form};
 
 /// The line before the cases, which is printed too.
@@ -38,8 +39,21 @@ struct Answer {
     class: Class,
 }
 
+impl batches::Case for Case {
+    type Class = Class;
+
+    fn steps(&self, label: &str) -> Vec<Step<Class>> {
+        let (wanted, class) = self.printed(label);
+        vec![Step {
+            line: self.line(label),
+            wanted,
+            classes: vec![class],
+        }]
+    }
+}
+
 impl Case {
-    pub fn line(&self, label: &str) -> String {
+    fn line(&self, label: &str) -> String {
         let (key, head, bytes) = match self {
             Case::Write {
                 room,
@@ -48,11 +62,10 @@ impl Case {
             } => ('w', vec![*room as u8, *control], payload),
             Case::Read { room, frame } => ('r', vec![*room as u8], frame),
         };
-        let bytes = head.iter().chain(bytes).map(|byte| format!(" {byte:02x}"));
-        format!("{key} {label}:{}\n", bytes.collect::<String>())
+        batches::line(key, label, &[&head, bytes.as_slice()].concat())
     }
 
-    pub fn printed(&self, label: &str) -> (String, Class) {
+    fn printed(&self, label: &str) -> (String, Class) {
         let (room, answer) = match self {
             Case::Write {
                 room,
@@ -98,61 +111,42 @@ fn refused(refusal: Refusal, class: Class) -> Answer {
     }
 }
 
-/// The stored cases of the subject, whose answers were written from the papers.
+/// The stored cases, held to the reference.
 #[cfg(test)]
-mod stored {
+mod stored_cases {
     use super::*;
+    use crate::stored::{self, Line};
 
-    const LINES: &str = include_str!("../../crates/run_cases/stdin");
-    const PRINTED: &str = include_str!("../../crates/run_cases/stdout");
-
-    /// The lines behind that of the subject, up to the next subject's.
-    fn section(text: &str) -> impl Iterator<Item = &str> {
-        let behind = text.lines().skip_while(|line| *line != SUBJECT).skip(1);
-        behind.take_while(|line| !line.starts_with("= "))
-    }
-
-    /// The label and the case of a line, unless the program does not run it.
-    fn parse(line: &str) -> Option<(&str, Case)> {
-        let (head, words) = line.split_once(':')?;
-        let (key, label) = head.split_once(' ')?;
-        let bytes: Vec<u8> = words.split_whitespace().map(byte).collect();
-        let (room, bytes) = bytes.split_first()?;
+    /// The case of a line, unless the program does not run it.
+    fn parse(line: &Line) -> Option<Case> {
+        let (room, bytes) = line.bytes.split_first()?;
         let room = usize::from(*room);
-        let case = match (key, bytes) {
-            ("w", [control, payload @ ..]) => Case::Write {
+        let case = match (line.key, bytes) {
+            ('w', [control, payload @ ..]) => Case::Write {
                 room,
                 control: *control,
                 payload: payload.to_vec(),
             },
-            ("r", frame) => Case::Read {
+            ('r', frame) => Case::Read {
                 room,
                 frame: frame.to_vec(),
             },
             _ => return None,
         };
-        (room <= OUTPUT_MAX).then_some((label, case))
-    }
-
-    fn byte(word: &str) -> u8 {
-        match word.as_bytes() {
-            [b'\'', byte] => *byte,
-            _ => u8::from_str_radix(word, 16).expect("two hexadecimal digits"),
-        }
+        (room <= OUTPUT_MAX).then_some(case)
     }
 
     /// What the reference says of each line.
     fn answers() -> Vec<(String, Class)> {
-        let lines = section(LINES).filter(|line| !line.starts_with('#'));
-        let cases = lines.filter_map(parse);
-        cases.map(|(label, case)| case.printed(label)).collect()
+        let lines = stored::lines(SUBJECT);
+        let answers = lines.filter_map(|line| Some(parse(&line)?.printed(line.label)));
+        answers.collect()
     }
 
     #[test]
     fn have_the_answers_of_the_reference() {
         let answers = answers();
-        let printed = section(PRINTED).filter(|line| !line.starts_with("not run, "));
-        let printed: Vec<&str> = printed.collect();
+        let printed: Vec<&str> = stored::printed(SUBJECT).collect();
         for ((answer, _), printed) in answers.iter().zip(&printed) {
             assert_eq!(answer.trim_end_matches('\n'), *printed);
         }

@@ -5,11 +5,14 @@
 
 #[path = "../reference/ash.rs"]
 mod ash;
+#[path = "../shared/batches.rs"]
 mod batches;
 mod cases;
 #[path = "../shared/child.rs"]
 mod child;
 mod classes;
+#[path = "../shared/comparison.rs"]
+mod comparison;
 #[path = "../reference/frame.rs"]
 #[allow(dead_code)]
 mod frame;
@@ -18,62 +21,44 @@ mod generated;
 mod random;
 #[path = "../shared/seeds.rs"]
 mod seeds;
+#[cfg(test)]
+#[path = "../shared/stored.rs"]
+mod stored;
 mod systematic;
 #[path = "../shared/tally.rs"]
 mod tally;
 
+use cases::{Case, SUBJECT};
 use classes::Class;
+use comparison::{Comparison, Part};
 use std::process::ExitCode;
-use std::thread;
 use tally::Tally;
 
 /// Generated cases for each seed.
 const GENERATED: usize = 32_000;
 
-/// How often each kind of answer must be wanted for each seed.
-const LEAST: u64 = 50;
-
 fn main() -> ExitCode {
-    let mut words = std::env::args().skip(1);
-    let Some(program) = words.next() else {
-        eprintln!("usage: ash_test PROGRAM [SEED...]");
-        return ExitCode::from(2);
+    let comparison = Comparison {
+        name: "ash",
+        tally: Tally::new(Class::all()),
+        least: 50,
     };
-    let seeds = match seeds::seeds(words) {
-        Ok(seeds) => seeds,
-        Err(fault) => {
-            eprintln!("{fault}");
-            return ExitCode::from(2);
-        }
-    };
-    let tally = match run(&program, &seeds) {
-        Ok(tally) => tally,
-        Err(difference) => {
-            eprintln!("{difference}");
-            return ExitCode::FAILURE;
-        }
-    };
-    tally.print();
-    println!("ash: seeds {seeds:?}, {} cases alike", tally.total());
-    let rare = tally.rare(LEAST * seeds.len() as u64);
-    if !rare.is_empty() {
-        eprintln!("too few cases wanted {rare:?}");
-    }
-    ExitCode::from(u8::from(!rare.is_empty()))
+    comparison.main(parts)
 }
 
-/// The systematic cases and those of each seed, each in a thread and with processes of its own.
-fn run(program: &str, seeds: &[u64]) -> Result<Tally<Class>, String> {
-    thread::scope(|scope| {
-        let systematic = scope.spawn(|| batches::run(program, systematic::cases()));
-        let generated = seeds
-            .iter()
-            .map(|seed| scope.spawn(|| batches::run(program, generated::cases(*seed, GENERATED))));
-        let generated: Vec<_> = generated.collect();
+/// The systematic cases and those of each seed.
+fn parts<'a>(program: &'a str, seeds: &'a [u64]) -> Vec<Part<'a, Class>> {
+    let mut parts = vec![part(program, systematic::cases())];
+    for seed in seeds {
+        parts.push(part(program, generated::cases(*seed, GENERATED)));
+    }
+    parts
+}
+
+fn part<'a>(program: &'a str, cases: impl Iterator<Item = Case> + Send + 'a) -> Part<'a, Class> {
+    Box::new(move || {
         let mut tally = Tally::new(Class::all());
-        for worker in std::iter::once(systematic).chain(generated) {
-            tally.join(&worker.join().expect("a worker that ended")?);
-        }
+        batches::run(program, SUBJECT, cases, &mut tally)?;
         Ok(tally)
     })
 }

@@ -36,7 +36,7 @@ struct Run {
 impl Run {
     fn note(&mut self, input: &str, result: Result<Class, String>) {
         match result {
-            Ok(class) => self.tally.add(class),
+            Ok(class) => self.tally.add(&[class]),
             Err(fault) => {
                 println!("FAILED {input}: {fault}");
                 self.failures += 1;

@@ -2,6 +2,9 @@
 //! led to the functions here, and what it prints is held to the program written a second time from
 //! document 01. An input is a history.
 
+#[path = "../reference/board.rs"]
+#[allow(dead_code)]
+mod board;
 #[path = "../reference/frame.rs"]
 #[allow(dead_code)]
 mod frame;
@@ -9,6 +12,9 @@ mod frame;
 #[allow(dead_code)]
 mod histories;
 mod mutate;
+#[path = "../reference/packet.rs"]
+#[allow(dead_code)]
+mod packet;
 #[path = "../reference/program.rs"]
 mod program;
 #[path = "../shared/random.rs"]

@@ -1,39 +1,24 @@
 //! The program of document 01, sections "Program and C host" and "The ledger", written for reading
 //! and not for speed. The replay test holds the program `replay` to this.
 
+use crate::board::Board;
 use crate::frame::{enclose, read_frame, FLAG, PAYLOAD_MAX};
+use crate::packet::is_name;
 
 const NAMES_MAX: usize = 16;
-const NAME_MAX: usize = 27;
 const FIELD_MAX: usize = 4096;
-const SILENT_FROM: u64 = 30;
-const NAME: u8 = 0x01;
-const END_OF_FILE: u8 = 0x14;
-
-/// A watched name, with the value of its last update and the ticks since.
-struct Watched {
-    name: Vec<u8>,
-    update: Option<(i64, u64)>,
-}
 
 #[derive(Default)]
 struct Ledger {
     run: Option<Vec<u8>>,
     last: Option<u8>,
-    watched: Vec<Watched>,
+    board: Board,
     new: u64,
     again: u64,
     heard: u64,
     unread: u64,
     refused: [u64; 6],
     printed: String,
-}
-
-/// What a packet is to the board.
-enum Reading {
-    Update { place: usize, value: i64 },
-    EndMark,
-    Refused,
 }
 
 /// All that the program prints for a history.
@@ -72,42 +57,6 @@ fn split_field(bytes: &[u8]) -> Option<(u8, &[u8], &[u8])> {
     Some((*tag, value, behind))
 }
 
-fn is_valid_name(name: &[u8]) -> bool {
-    let in_name = |byte: &u8| byte.is_ascii_alphanumeric() || b"-_".contains(byte);
-    name.len() <= NAME_MAX
-        && name.first().is_some_and(u8::is_ascii_alphabetic)
-        && name.iter().all(in_name)
-}
-
-fn items(mut bytes: &[u8]) -> Option<Vec<(u8, &[u8])>> {
-    let mut items = Vec::new();
-    while !bytes.is_empty() {
-        let [kind, length, rest @ ..] = bytes else {
-            return None;
-        };
-        let length = usize::from(*length);
-        if rest.len() < length || (*kind == END_OF_FILE && length != 0) {
-            return None;
-        }
-        let (value, behind) = rest.split_at(length);
-        items.push((*kind, value));
-        bytes = behind;
-    }
-    Some(items)
-}
-
-/// The value of a reading, by the type and the bytes of its item.
-fn value_of(kind: u8, bytes: &[u8]) -> Option<i64> {
-    match (kind, bytes) {
-        (0x0f, [byte @ 0..=1]) => Some(i64::from(*byte)),
-        (0x02 | 0x16, &[a]) => Some(i64::from(i8::from_be_bytes([a]))),
-        (0x02 | 0x16, &[a, b]) => Some(i64::from(i16::from_be_bytes([a, b]))),
-        (0x02 | 0x16, &[a, b, c, d]) => Some(i64::from(i32::from_be_bytes([a, b, c, d]))),
-        (0x02 | 0x16, bytes) => Some(i64::from_be_bytes(bytes.try_into().ok()?)),
-        _ => None,
-    }
-}
-
 impl Ledger {
     fn broken(mut self) -> String {
         self.printed.push_str("refused 15\n");
@@ -115,21 +64,17 @@ impl Ledger {
     }
 
     fn watch(&mut self, name: &[u8]) -> bool {
-        let listed = self.watched.iter().any(|watched| watched.name == name);
-        if !is_valid_name(name) || listed || self.watched.len() == NAMES_MAX {
+        let rows = &self.board.rows;
+        let listed = rows.iter().any(|row| row.name == name);
+        if !is_name(name) || listed || rows.len() == NAMES_MAX {
             return false;
         }
-        self.watched.push(Watched {
-            name: name.to_vec(),
-            update: None,
-        });
+        self.board.watch(name);
         true
     }
 
     fn tick(&mut self, value: &[u8]) -> bool {
-        for (_, ticks) in self.watched.iter_mut().flat_map(|watched| &mut watched.update) {
-            *ticks += 1;
-        }
+        self.board.tick();
         value.is_empty()
     }
 
@@ -175,50 +120,14 @@ impl Ledger {
         }
         self.new += 1;
         self.last = Some(sequence);
-        match self.read(payload) {
-            Reading::Update { place, value } => self.watched[place].update = Some((value, 0)),
-            Reading::EndMark => {}
-            Reading::Refused => self.unread += 1,
+        if self.board.take(payload).is_err() {
+            self.unread += 1;
         }
-    }
-
-    fn read(&self, payload: &[u8]) -> Reading {
-        let [1, 3, _, _, rest @ ..] = payload else {
-            return Reading::Refused;
-        };
-        let Some(items) = items(rest) else {
-            return Reading::Refused;
-        };
-        let names = items.iter().filter(|(kind, _)| *kind == NAME).count();
-        if names == 0 && items.iter().any(|(kind, _)| *kind == END_OF_FILE) {
-            return Reading::EndMark;
-        }
-        if names != 1 {
-            return Reading::Refused;
-        }
-        self.read_update(&items).unwrap_or(Reading::Refused)
-    }
-
-    fn read_update(&self, items: &[(u8, &[u8])]) -> Option<Reading> {
-        let at = items.iter().position(|(kind, _)| *kind == NAME)?;
-        let name = items[at].1;
-        let (kind, bytes) = items.get(at + 1)?;
-        let value = value_of(*kind, bytes)?;
-        let place = self.watched.iter().position(|watched| watched.name == name)?;
-        Some(Reading::Update { place, value })
     }
 
     fn report(self) -> String {
         let mut printed = self.printed;
-        for watched in &self.watched {
-            let state = match watched.update {
-                None => "never".to_string(),
-                Some((_, ticks)) if ticks >= SILENT_FROM => "silent".to_string(),
-                Some((value, ticks)) => format!("current {value} {ticks}"),
-            };
-            let name = String::from_utf8_lossy(&watched.name);
-            printed.push_str(&format!("{name} {state}\n"));
-        }
+        printed.push_str(&self.board.shown());
         let [new, again, heard, unread] =
             [self.new, self.again, self.heard, self.unread].map(|count| count % 65_536);
         printed.push_str(&format!(

@@ -3,12 +3,18 @@
 //!
 //! Arguments: the program, how many histories, the seed.
 
+#[path = "../reference/board.rs"]
+#[allow(dead_code)]
+mod board;
 #[path = "../shared/child.rs"]
 mod child;
 #[path = "../reference/frame.rs"]
 #[allow(dead_code)]
 mod frame;
 mod histories;
+#[path = "../reference/packet.rs"]
+#[allow(dead_code)]
+mod packet;
 #[path = "../reference/program.rs"]
 mod program;
 #[path = "../shared/random.rs"]

@@ -4,20 +4,27 @@ use std::fmt::Debug;
 
 pub struct Tally<Class> {
     counts: Vec<(Class, u64)>,
+    answers: u64,
 }
 
 impl<Class: Copy + Debug + PartialEq> Tally<Class> {
     pub fn new(classes: impl IntoIterator<Item = Class>) -> Tally<Class> {
         Tally {
             counts: classes.into_iter().map(|class| (class, 0)).collect(),
+            answers: 0,
         }
     }
 
-    pub fn add(&mut self, class: Class) {
-        self.add_times(class, 1);
+    /// Adds one answer, which may be of several kinds.
+    pub fn add(&mut self, classes: &[Class]) {
+        self.answers += 1;
+        for class in classes {
+            self.add_times(*class, 1);
+        }
     }
 
     pub fn join(&mut self, other: &Tally<Class>) {
+        self.answers += other.answers;
         for (class, count) in &other.counts {
             self.add_times(*class, *count);
         }
@@ -28,8 +35,9 @@ impl<Class: Copy + Debug + PartialEq> Tally<Class> {
         entry.expect("every class has its count").1 += times;
     }
 
+    /// How many answers there were.
     pub fn total(&self) -> u64 {
-        self.counts.iter().map(|entry| entry.1).sum()
+        self.answers
     }
 
     pub fn print(&self) {

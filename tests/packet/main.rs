@@ -1,0 +1,85 @@
+//! Runs the program `run_cases` on many packets, readings of the board and file fragments, and
+//! compares what it prints with the reference.
+//!
+//! Arguments: the program, then seeds; without them the run is always the same.
+
+mod applying;
+#[path = "../shared/batches.rs"]
+mod batches;
+#[path = "../reference/board.rs"]
+mod board;
+mod cases;
+#[path = "../shared/child.rs"]
+mod child;
+mod classes;
+#[path = "../shared/comparison.rs"]
+mod comparison;
+mod draft;
+mod files;
+mod fragments;
+mod generated;
+#[path = "../reference/packet.rs"]
+mod packet;
+#[path = "../shared/random.rs"]
+mod random;
+mod receiver;
+#[path = "../shared/seeds.rs"]
+mod seeds;
+#[cfg(test)]
+#[path = "../shared/stored.rs"]
+mod stored;
+mod systematic;
+#[path = "../shared/tally.rs"]
+mod tally;
+#[path = "../reference/transfer.rs"]
+mod transfer;
+
+use cases::{Case, BOARD_SUBJECT, PACKET_SUBJECT, TRANSFER_SUBJECT};
+use classes::Class;
+use comparison::{Comparison, Part};
+use std::process::ExitCode;
+use tally::Tally;
+
+// Generated packets for each seed.
+const PACKETS: usize = 16_000;
+const READINGS: usize = 16_000;
+const FRAGMENTS: usize = 16_000;
+
+fn main() -> ExitCode {
+    let comparison = Comparison {
+        name: "packet",
+        tally: Tally::new(Class::all()),
+        least: 25,
+    };
+    comparison.main(parts)
+}
+
+/// The systematic cases and those of each seed, of each subject.
+fn parts<'a>(program: &'a str, seeds: &'a [u64]) -> Vec<Part<'a, Class>> {
+    let mut parts = vec![
+        part(program, PACKET_SUBJECT, systematic::packet_cases()),
+        part(program, BOARD_SUBJECT, systematic::board_cases()),
+        part(program, TRANSFER_SUBJECT, files::cases()),
+    ];
+    for &seed in seeds {
+        let packets = generated::packet_cases(seed, PACKETS);
+        let readings = generated::board_cases(seed, READINGS);
+        let fragments = fragments::cases(seed, FRAGMENTS);
+        parts.push(part(program, PACKET_SUBJECT, packets));
+        parts.push(part(program, BOARD_SUBJECT, readings));
+        parts.push(part(program, TRANSFER_SUBJECT, fragments));
+    }
+    parts
+}
+
+fn part<'a>(
+    program: &'a str,
+    subject: &'a str,
+    cases: impl Iterator<Item = Case> + Send + 'a,
+) -> Part<'a, Class> {
+    Box::new(move || {
+        let mut tally = Tally::new(Class::all());
+        batches::run(program, subject, cases, &mut tally)?;
+        Ok(tally)
+    })
+}

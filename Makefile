@@ -261,8 +261,24 @@ emptied:
 
 # The measurements
 
-$(OUT)/speed $(OUT)/stack: $(OUT)/%: bench/%.c $(MEASURED) $(HEADERS) $(ARCHIVE) | $(OUT)
+$(OUT)/speed: bench/speed.c $(MEASURED) $(HEADERS) $(ARCHIVE) | $(OUT)
 	$(CC) $(BENCH_CFLAGS) -o $@ $(INPUTS)
+
+$(OUT)/stack: bench/stack.c bench/painted.c $(MEASURED) $(HEADERS) $(ARCHIVE) | $(OUT)
+	$(CC) $(BENCH_CFLAGS) -o $@ $(INPUTS)
+
+# A program whose main, read and write have other names.
+$(OUT)/%.program.o: target/bin/% | $(OUT)
+	objcopy --redefine-sym main=program_main --redefine-sym read=program_read \
+		--redefine-sym write=program_write target/obj/$*.o $@
+
+$(OUT)/replay_stack $(OUT)/run_cases_stack: $(OUT)/%_stack: bench/program_stack.c bench/painted.c \
+		$(HEADERS) $(OUT)/%.program.o
+	$(CC) $(BENCH_CFLAGS) -o $@ $(INPUTS)
+
+# Packets of 1 to 499,998 items: three from the line, and the others by cases.
+ITEM_HISTORIES := $(patsubst %,examples/histories/%.history,case_6 items_before_the_name items_189)
+ITEM_CASES := $(patsubst %,bench/items_%.txt,1 189 44998 499998)
 
 $(OUT)/receive $(OUT)/plain_receiver: $(OUT)/%: bench/%.c $(PLAIN) $(HEADERS) | $(OUT)
 	$(CC) $(BENCH_CFLAGS) -o $@ $(INPUTS)
@@ -270,9 +286,12 @@ $(OUT)/receive $(OUT)/plain_receiver: $(OUT)/%: bench/%.c $(PLAIN) $(HEADERS) | 
 $(OUT)/table_receiver: bench/plain_receiver.c $(PLAIN) $(HEADERS) | $(OUT)
 	$(CC) $(BENCH_CFLAGS) -DCONTENT_CRC=table_crc -o $@ $(INPUTS)
 
-## make measure          measure stack and code size alone
-measure: $(OUT)/stack
+## make measure          measure stack and code size alone (binutils)
+measure: $(addprefix $(OUT)/,stack replay_stack run_cases_stack)
 	@$(OUT)/stack
+	@echo "stack in bytes of whole programs"
+	@$(OUT)/replay_stack $(ITEM_HISTORIES)
+	@$(OUT)/run_cases_stack $(ITEM_CASES)
 	@echo "code size in bytes (text)"
 	@$(SIZE) $(ARCHIVE)
 

@@ -174,11 +174,18 @@ static struct stream make_stream(const char *kind, const uint8_t *payload, size_
     }
 }
 
-/* The update of case 6, alone or with two items behind it that fill the longest payload. */
-static struct stream updates(int longest)
+/* The update of case 6. */
+static const uint8_t update[] = {0x01, 0x03, 0x00, 0x00, 0x01, 0x02, 'h',
+                                 '1',  0x16, 0x04, 0x00, 0x00, 0x0d, 0x7a};
+
+static struct stream short_updates(void)
 {
-    static const uint8_t update[] = {0x01, 0x03, 0x00, 0x00, 0x01, 0x02, 'h',
-                                     '1',  0x16, 0x04, 0x00, 0x00, 0x0d, 0x7a};
+    return make_stream("update", update, sizeof update);
+}
+
+/* With two items behind it that fill the longest payload. */
+static struct stream longest_updates(void)
+{
     static const size_t items[] = {sizeof update, sizeof update + 2 + 255};
     uint8_t payload[ARZNAVIK_PAYLOAD_MAX];
     for (size_t i = 0; i < sizeof payload; i++)
@@ -187,8 +194,17 @@ static struct stream updates(int longest)
     payload[items[0]] = payload[items[1]] = 0x05;
     payload[items[0] + 1] = 255;
     payload[items[1] + 1] = (uint8_t)(sizeof payload - items[1] - 2);
-    return longest ? make_stream("longest", payload, sizeof payload)
-                   : make_stream("update", payload, sizeof update);
+    return make_stream("longest", payload, sizeof payload);
+}
+
+/* With as many empty items behind it as the longest payload has room for. */
+static struct stream updates_of_many_items(void)
+{
+    uint8_t payload[ARZNAVIK_PAYLOAD_MAX - 1] = {0};
+    memcpy(payload, update, sizeof update);
+    for (size_t i = sizeof update; i < sizeof payload; i += 2)
+        payload[i] = 0x05;
+    return make_stream("items", payload, sizeof payload);
 }
 
 static void print_row(struct program programs[PROGRAMS], size_t size, const struct stream *stream)
@@ -208,7 +224,7 @@ int main(int argc, char **argv)
     struct program programs[PROGRAMS];
     for (int i = 0; i < PROGRAMS; i++)
         programs[i].path = argv[1 + i];
-    const struct stream streams[] = {updates(0), updates(1)};
+    const struct stream streams[] = {short_updates(), longest_updates(), updates_of_many_items()};
     printf("million bytes in a second; a ratio under 1.00 means that the library is faster\n");
     printf("%-8s  %6s  %8s  %8s  %5s  %8s  %5s\n", "frames", "piece", "library", "plain C", "ratio",
            "table C", "ratio");

@@ -4,15 +4,20 @@ use mathlib.Core.Path.{_≡_, refl, ap, _∙_}
 use mathlib.Core.List.{List}
 use Prim.Native.Nat.{ℕ}
 use lib.ListN.{length}
-use Rattle.slices.proofs.Lent.{InCall, in-call}
-use Rattle.packet.specs.Items.{countOf, firstOf, behindOf}
+use Rattle.slices.proofs.Lent.{Slice, InCall, in-call}
+use Rattle.packet.specs.Items.{countOf, firstOf, valueBytes, valueIn, behindOf}
 use Rattle.packet.specs.Packet.{Packet, packet, refused, packetOf, judgedItems, packetItems}
-use Rattle.packet.specs.Answers.{readingOf, findIn, behindIn, lookOf}
+use Rattle.packet.specs.Answers.{readingOf, findIn, behindIn, itemAt, lookOf}
 use Rattle.packet.specs.ReaderSteps.{refusedLook}
+use Rattle.packet.specs.declared.items.Found.{Found}
 use Rattle.packet.specs.declared.reading.Look.{Look}
 use Rattle.packet.specs.declared.reading.Reading.the-variants as reading
-use Rattle.packet.proofs.FoundLaws.{Reads, find-reads, behind-found-reads}
+use Rattle.packet.proofs.FoundLaws.{Reads, find-reads, value-found, behind-found-reads}
 use Rattle.packet.proofs.reading.look_for.Reads as look-for
+use Rattle.packet.proofs.reading.count.Reads as count
+use Rattle.packet.proofs.reading.find.Reads as find
+use Rattle.packet.proofs.reading.behind.Reads as behind
+use Rattle.packet.proofs.reading.value_at.Reads as value-at
 
 abbrev pub LookCall : (kind : ℕ) (bytes : List ℕ) (look : Look) → Type 0
 LookCall kind = InCall look-for.Asked look-for.Learnt (λ bytes. (bytes, (kind, tt)))
@@ -44,3 +49,33 @@ module _ {kind : ℕ} {bytes : List ℕ} {look : Look} (call : LookCall kind byt
   pub look-at-refused : (number : ℕ) → packetOf bytes ≡ refused number → look ≡ refusedLook number
   unfolding packetItems readingOf judgedItems countOf findIn behindIn
   look-at-refused number e = taken ∙ rw e
+
+-- each function that answers one thing alone answers what the look does
+abbrev pub CountCall : (kind : ℕ) (bytes : List ℕ) (answer : ℕ) → Type 0
+CountCall kind = InCall count.Asked count.Learnt (λ bytes. (bytes, (kind, tt)))
+
+abbrev pub FindCall : (kind : ℕ) (bytes : List ℕ) (answer : Found) → Type 0
+FindCall kind = InCall find.Asked find.Learnt (λ bytes. (bytes, (kind, tt)))
+
+abbrev pub BehindCall : (kind : ℕ) (bytes : List ℕ) (answer : Found) → Type 0
+BehindCall kind = InCall behind.Asked behind.Learnt (λ bytes. (bytes, (kind, tt)))
+
+module _ {kind : ℕ} {bytes : List ℕ} {look : Look} (call : LookCall kind bytes look) where
+  pub count-of-look : {answer : ℕ} → CountCall kind bytes answer → answer ≡ look .count
+  count-of-look c = rw (taken call) (rw (c .input-lent .holds) at (c .learnt))
+
+  pub find-of-look : {answer : Found} → FindCall kind bytes answer → answer ≡ look .first
+  find-of-look c = rw (taken call) (rw (c .input-lent .holds) at (c .learnt))
+
+  pub behind-of-look : {answer : Found} → BehindCall kind bytes answer → answer ≡ look .behind
+  behind-of-look c = rw (taken call) (rw (c .input-lent .holds) at (c .learnt))
+
+-- the bytes of an item that is found, of the first one of the kind its value
+abbrev pub ValueAtCall : (item : Found) (bytes : List ℕ) (answer : Slice) → Type 0
+ValueAtCall item = InCall value-at.Asked value-at.Learnt (λ bytes. (bytes, (item, tt)))
+
+pub value-of-item : {item : Found} {bytes : List ℕ} {answer : Slice} → ValueAtCall item bytes answer → answer .now ≡ valueBytes (itemAt bytes item)
+value-of-item c = rw (c .input-lent .holds) at (c .learnt)
+
+pub value-of-look : {kind : ℕ} {bytes : List ℕ} {look : Look} {answer : Slice} → LookCall kind bytes look → ValueAtCall (look .first) bytes answer → answer .now ≡ valueIn kind (packetItems bytes)
+value-of-look {kind} {bytes} {look} call c = value-of-item c ∙ value-found bytes kind (look .first) (rw (taken call))

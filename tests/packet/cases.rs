@@ -154,6 +154,8 @@ fn reading(packet: &[u8]) -> String {
 mod stored_cases {
     use super::*;
     use crate::batches::Case as _;
+    use crate::board::UPDATE;
+    use crate::packet::{DATA, HEAD};
     use crate::stored::{self, Line};
 
     /// The case of a line that is neither of a transfer nor of a function that is not compared.
@@ -167,12 +169,22 @@ mod stored_cases {
                 kind,
                 packet: bytes[1..].to_vec(),
             }),
+            ('e', Some(kind)) => long_packet(&bytes[1..]).map(|packet| Case::Look { kind, packet }),
             ('v', Some(kind)) => Some(Case::Value {
                 kind,
                 bytes: bytes[1..].to_vec(),
             }),
             _ => None,
         }
+    }
+
+    /// Empty items of type 00 up to the length in the first four bytes, and the others behind them.
+    /// Longer than a mebibyte it is not run.
+    fn long_packet(bytes: &[u8]) -> Option<Vec<u8>> {
+        let (size, tail) = bytes.split_first_chunk::<4>()?;
+        let empty_items = u32::from_be_bytes(*size) as usize - HEAD;
+        let packet = [&[DATA, UPDATE, 0, 0], vec![0; empty_items].as_slice(), tail].concat();
+        (packet.len() <= 1 << 20).then_some(packet)
     }
 
     /// The lines of a transfer as one case, and their labels.
@@ -223,7 +235,7 @@ mod stored_cases {
 
     #[test]
     fn of_packets() {
-        assert!(have_the_answers_of_the_reference(PACKET_SUBJECT) > 30);
+        assert!(have_the_answers_of_the_reference(PACKET_SUBJECT) > 60);
     }
 
     #[test]

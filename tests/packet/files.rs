@@ -64,7 +64,7 @@ fn every_limit() -> impl Iterator<Item = Case> {
     })
 }
 
-/// Offsets and Lengths of 0 to 9 bytes, of which one is not 0.
+/// Offsets and Lengths of 0 to 9 bytes, of which at most one is not 0.
 fn every_number() -> impl Iterator<Item = Case> {
     let numbers = (0..=9).flat_map(|width| {
         (0..=width).map(move |place| {

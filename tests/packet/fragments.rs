@@ -191,7 +191,7 @@ impl Sender<'_> {
         }
     }
 
-    /// Two faults, each of another refusal.
+    /// Two faults, most often of two refusals.
     fn refuse_twice(&mut self, draft: &mut Draft) {
         for _ in 0..2 {
             match self.random.below(9) {

@@ -167,8 +167,8 @@ fn many_items() -> impl Iterator<Item = Vec<u8>> {
     })
 }
 
-/// Each first byte and each opcode before an update, an end mark and a cut item, and ids at their
-/// limits before the first two.
+/// Each first byte, each opcode and ids at their limits before an update, an end mark and a value of no
+/// bytes; and each of these packets cut by a byte.
 fn every_head() -> impl Iterator<Item = Vec<u8>> {
     let bodies = [
         vec![part(NAME, b"h2"), part(INTEGER, &[5])],

@@ -10,7 +10,7 @@ use lib.Dec.{eqb}
 use lib.ListN.{length}
 use Rattle.packet.specs.Items.{Item, inFront, countOf}
 use Rattle.packet.specs.Answers.{placed, past, headIn, findIn, behindIn}
-use Rattle.packet.specs.ReaderSteps.{earlier, behindFirst, noItems, withItem, surveyOf, tallyOf}
+use Rattle.packet.specs.ReaderSteps.{earlier, behindFirst, noItems, withItem, tallyOf}
 use Rattle.packet.specs.declared.items.Found.{Found}
 use Rattle.packet.specs.declared.items.Found.the-variants.{At, Nothing}
 use Rattle.packet.specs.declared.items.Survey.{Survey}

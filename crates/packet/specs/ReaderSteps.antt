@@ -46,7 +46,7 @@ noItems = record { all = 0; count = 0; first = Nothing; behind = Nothing }
 abbrev pub Countable : Survey → Type 0
 Countable survey = (survey .all + 1 < 2 ^ 64) × (survey .count + 1 < 2 ^ 64)
 
--- what the items are with one more behind them, which is of the wanted kind or not
+-- some items and one more behind them, which is of the wanted kind or not
 abbrev pub withItem : Survey → Found → Bool → Survey
 withItem survey item wanted =
     record {
@@ -56,7 +56,7 @@ withItem survey item wanted =
       behind = behindFirst (survey .first) (survey .behind) item;
     }
 
--- what the items from the place at on are to the kind
+-- the items from the place at on: how many, how many of the kind, the first of these and the item right behind it
 abbrev pub surveyOf : ℕ → ℕ → List Item → Survey
 surveyOf at kind items =
     record { all = length items; count = countOf kind items; first = findIn at kind items; behind = behindIn at kind items }

@@ -19,8 +19,8 @@ pub enum Found {
     Nothing,
 }
 
-// What some items are: how many there are, how many of the wanted kind, the first of these, and the
-// item right behind that.
+// Some items: how many there are, how many of the wanted kind, the first of these, and the item right
+// behind that.
 pub(crate) struct Survey {
     pub(crate) all: usize,
     pub(crate) count: usize,
@@ -103,7 +103,7 @@ fn no_items() -> Survey
     }
 }
 
-// What the items are with one more behind them, which is of the wanted kind or not.
+// The same with one item more behind them, which is of the wanted kind or not.
 fn with_item(survey: Survey, item: Found, wanted: bool) -> Survey
     requires { ⌜ Countable survey ⌝ }
     ensures { λ r. ⌜ r ≡ withItem survey item wanted ⌝ }

@@ -1,5 +1,5 @@
 // Packets longer than any line: empty items of type 00, and a few bytes behind them.
-use crate::packets::show_look;
+use crate::packets;
 use cases::line;
 
 // The bytes before the items: opcode 03, id 0.
@@ -12,7 +12,7 @@ const LONG_ROOM: usize = 0x100000;
 // the empty items (four bytes, high byte first), and what stands behind them.
 const SIZE_END: usize = 5;
 
-// What a look answers of such a packet.
+// What a look answers of such a packet, and what the functions that answer one thing alone do.
 pub(crate) fn show(line: &[u8], bytes: &[u8]) {
     let mut packet = empty_items();
     show_in(line, bytes, &mut packet);
@@ -31,6 +31,10 @@ fn show_in(line: &[u8], bytes: &[u8], packet: &mut [u8]) {
     }
     let size = line::number(&bytes[1..SIZE_END]) as usize;
     let tail = &bytes[SIZE_END..];
+    if size < HEAD.len() {
+        line::not_run(line, b"too short");
+        return;
+    }
     if packet.len() < size {
         line::not_run(line, b"too long");
         return;
@@ -42,5 +46,7 @@ fn show_in(line: &[u8], bytes: &[u8], packet: &mut [u8]) {
     }
     slices::put(packet, 0, &HEAD);
     slices::put(packet, size, tail);
-    show_look(line, slices::first(packet, end), bytes[0]);
+    let whole = slices::first(packet, end);
+    packets::show_look(line, whole, bytes[0]);
+    packets::show(line, whole);
 }

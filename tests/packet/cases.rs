@@ -158,31 +158,38 @@ mod stored_cases {
     use crate::packet::{DATA, HEAD};
     use crate::stored::{self, Line};
 
-    /// The case of a line that is neither of a transfer nor of a function that is not compared.
-    fn parse(line: &Line) -> Option<Case> {
-        let bytes = line.bytes.clone();
-        let first = bytes.first().copied();
-        match (line.key, first) {
-            ('p', _) => Some(Case::Parts(bytes)),
-            ('r', _) => Some(Case::Reading(bytes)),
-            ('k', Some(kind)) => Some(Case::Look {
-                kind,
-                packet: bytes[1..].to_vec(),
+    /// The cases of a line; none of one of a transfer, or of a function that is not compared.
+    fn parse(line: &Line) -> Vec<Case> {
+        let Some((&kind, rest)) = line.bytes.split_first() else {
+            return match line.key {
+                'p' => vec![Case::Parts(Vec::new())],
+                'r' => vec![Case::Reading(Vec::new())],
+                _ => Vec::new(),
+            };
+        };
+        let (bytes, rest) = (line.bytes.clone(), rest.to_vec());
+        match line.key {
+            'p' => vec![Case::Parts(bytes)],
+            'r' => vec![Case::Reading(bytes)],
+            'k' => vec![Case::Look { kind, packet: rest }],
+            'v' => vec![Case::Value { kind, bytes: rest }],
+            'e' => long_packet(&rest).map_or(Vec::new(), |packet| {
+                let looked_at = packet.clone();
+                let look = Case::Look {
+                    kind,
+                    packet: looked_at,
+                };
+                vec![look, Case::Parts(packet)]
             }),
-            ('e', Some(kind)) => long_packet(&bytes[1..]).map(|packet| Case::Look { kind, packet }),
-            ('v', Some(kind)) => Some(Case::Value {
-                kind,
-                bytes: bytes[1..].to_vec(),
-            }),
-            _ => None,
+            _ => Vec::new(),
         }
     }
 
     /// Empty items of type 00 up to the length in the first four bytes, and the others behind them.
-    /// Longer than a mebibyte it is not run.
+    /// Shorter than a packet's first four bytes or longer than a mebibyte it is not run.
     fn long_packet(bytes: &[u8]) -> Option<Vec<u8>> {
         let (size, tail) = bytes.split_first_chunk::<4>()?;
-        let empty_items = u32::from_be_bytes(*size) as usize - HEAD;
+        let empty_items = (u32::from_be_bytes(*size) as usize).checked_sub(HEAD)?;
         let packet = [&[DATA, UPDATE, 0, 0], vec![0; empty_items].as_slice(), tail].concat();
         (packet.len() <= 1 << 20).then_some(packet)
     }
@@ -226,16 +233,17 @@ mod stored_cases {
     }
 
     fn have_the_answers_of_the_reference(subject: &str) -> usize {
-        let answers = stored::lines(subject).filter_map(|line| {
-            let [step] = parse(&line)?.steps(line.label).try_into().ok()?;
-            Some(step.wanted)
+        let answers = stored::lines(subject).flat_map(|line| {
+            let cases = parse(&line).into_iter();
+            let steps = cases.flat_map(move |case| case.steps(line.label));
+            steps.map(|step| step.wanted)
         });
         stand_in(subject, answers)
     }
 
     #[test]
     fn of_packets() {
-        assert!(have_the_answers_of_the_reference(PACKET_SUBJECT) > 60);
+        assert!(have_the_answers_of_the_reference(PACKET_SUBJECT) > 70);
     }
 
     #[test]

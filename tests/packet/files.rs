@@ -225,7 +225,8 @@ fn sent_twice(room: usize, pieces: &[&[u8]], declares: bool, end_apart: bool) ->
 }
 
 /// Locations of each length up to 70; one that starts a transfer gets a fragment of each location
-/// that differs from it in one bit, is one byte shorter or longer, and its own.
+/// that differs from it in one bit, is one byte shorter or longer, and its own. One that starts none
+/// gets a good fragment.
 fn every_location() -> impl Iterator<Item = Case> {
     (0..=70).map(|length| {
         let location = vec![b'l'; length];
@@ -242,6 +243,8 @@ fn every_location() -> impl Iterator<Item = Case> {
                 .iter()
                 .map(|other| fragment(other, 0, b"a", None, true).bytes());
             events.extend(packets.map(Event::Give));
+        } else {
+            events.push(Event::Give(fragment(LOC, 0, b"a", None, true).bytes()));
         }
         Case::Transfer(events)
     })

@@ -79,12 +79,13 @@ impl Sender<'_> {
         self.events.push(event);
     }
 
-    /// A location that is refused is followed by one that is not.
+    /// A location that is refused is followed by a fragment, and by one that is not.
     fn start(&mut self) {
         if self.random.below(8) == 0 {
             let length = self.random.one_of(&[0, 65, 66, 255]);
             let location = bytes(self.random, length);
             self.add(Event::Start(location));
+            self.add(Event::Give(fragment(LOC, 0, b"a", None, true).bytes()));
         }
         let any = 1 + self.random.below(64);
         let length = self.random.one_of(&[1, 2, 64, any]);

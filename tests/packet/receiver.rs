@@ -56,8 +56,10 @@ impl Receiver {
     pub fn give(&mut self, packet: &[u8]) -> Result<(), Refusal> {
         match &mut self.transfer {
             Some(transfer) => transfer.take(packet, &mut self.file[..self.room]),
-            // Of what is no fragment the transfer is not asked.
-            None => Err(read_fragment(packet).expect_err("a fragment needs a transfer")),
+            // After a refused start no fragment is of the transfer's location.
+            None => Err(read_fragment(packet)
+                .err()
+                .unwrap_or(Refusal::OtherLocation)),
         }
     }
 

@@ -124,6 +124,8 @@ def tokens_in(repository, page, text):
     for found in re.finditer(r"\b[a-z]+_(cases|bench)\b", text):
         if found[0] not in repository.crates:
             yield found.start(), f"there is no crate {found[0]}"
+    for found in re.finditer(r"\b(TODO|FIXME|XXX)\b", text):
+        yield found.start(), f"{found[0]}: unfinished"
     for found in re.finditer(r"\brun (\w+_cases(?:, \w+_cases)*)", text):
         for crate in found[1].split(", "):
             if crate not in repository.runs:

@@ -36,6 +36,7 @@ DAMAGES = [
     ("a row that another refers to", CLAIMS, r"the rows F\.1 to F\.(\d+)", r"the rows F.1 to F.9\1"),
     ("a row without an id", CLAIMS, r"(?m)^\| D1\.2 ", "| "),
     ("a name without a place", CLAIMS, r"A contract is stated once", "A `contract` is stated once"),
+    ("an unfinished place", CLAIMS, r"(?m)^(\| D1\.2 \|)", r"\1 TODO"),
     ("a make target", "README.md", r"`make (\w+)`", r"`make no\1`"),
     ("a name of the header", "README.md", r"`arznavik_(\w+)`", r"`arznavik_no_\1`"),
     ("an anchor", "README.md", r"\]\(#([\w-]+)\)", r"](#no-\1)"),

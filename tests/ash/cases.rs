@@ -4,6 +4,7 @@
 use crate::ash::{read_frame, write_frame, Refusal};
 use crate::batches::{self, Step};
 use crate::classes::{Class, Form};
+use crate::tally::Tally;
 
 /// The line before the cases, which is printed too.
 pub const SUBJECT: &str = "= ash";
@@ -41,6 +42,10 @@ struct Answer {
 
 impl batches::Case for Case {
     type Class = Class;
+
+    fn tally() -> Tally<Class> {
+        Tally::new(Class::all())
+    }
 
     fn steps(&self, label: &str) -> Vec<Step<Class>> {
         let (wanted, class) = self.printed(label);

@@ -28,11 +28,11 @@ mod systematic;
 #[path = "../shared/tally.rs"]
 mod tally;
 
+use batches::{part, Case as _};
 use cases::{Case, SUBJECT};
 use classes::Class;
 use comparison::{Comparison, Part};
 use std::process::ExitCode;
-use tally::Tally;
 
 /// Generated cases for each seed.
 const GENERATED: usize = 32_000;
@@ -40,7 +40,7 @@ const GENERATED: usize = 32_000;
 fn main() -> ExitCode {
     let comparison = Comparison {
         name: "ash",
-        tally: Tally::new(Class::all()),
+        tally: Case::tally(),
         least: 50,
     };
     comparison.main(parts)
@@ -48,17 +48,9 @@ fn main() -> ExitCode {
 
 /// The systematic cases and those of each seed.
 fn parts<'a>(program: &'a str, seeds: &'a [u64]) -> Vec<Part<'a, Class>> {
-    let mut parts = vec![part(program, systematic::cases())];
+    let mut parts = vec![part(program, SUBJECT, systematic::cases())];
     for seed in seeds {
-        parts.push(part(program, generated::cases(*seed, GENERATED)));
+        parts.push(part(program, SUBJECT, generated::cases(*seed, GENERATED)));
     }
     parts
-}
-
-fn part<'a>(program: &'a str, cases: impl Iterator<Item = Case> + Send + 'a) -> Part<'a, Class> {
-    Box::new(move || {
-        let mut tally = Tally::new(Class::all());
-        batches::run(program, SUBJECT, cases, &mut tally)?;
-        Ok(tally)
-    })
 }

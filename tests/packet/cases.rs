@@ -4,8 +4,9 @@
 use crate::batches::{self, Step};
 use crate::board::{read_value, Board, Reading, Refusal};
 use crate::classes::{self, Class};
-use crate::packet::{read_packet, Item, Look, Packet, EOF, NAME};
+use crate::packet::{read_packet, Item, Look, Packet, CASE_6, EOF, NAME};
 use crate::receiver::{self, Event};
+use crate::tally::Tally;
 
 /// The lines before the cases, which are printed too.
 pub const PACKET_SUBJECT: &str = "= packet";
@@ -33,6 +34,10 @@ pub enum Case {
 
 impl batches::Case for Case {
     type Class = Class;
+
+    fn tally() -> Tally<Class> {
+        Tally::new(Class::all())
+    }
 
     fn steps(&self, label: &str) -> Vec<Step<Class>> {
         let step = match self {
@@ -132,7 +137,7 @@ pub fn lent_board() -> Board {
     let mut board = Board::default();
     board.watch(b"h1");
     board.watch(b"h2");
-    let case_6 = board.take(b"\x01\x03\x00\x00\x01\x02h1\x16\x04\x00\x00\x0d\x7a");
+    let case_6 = board.take(CASE_6);
     case_6.expect("case 6 is an update");
     board.tick();
     board

@@ -79,7 +79,7 @@ impl Sender<'_> {
         self.events.push(event);
     }
 
-    /// A location that is refused is followed by a fragment, and by one that is not.
+    /// After a location that is refused come a fragment and a location that is not.
     fn start(&mut self) {
         if self.random.below(8) == 0 {
             let length = self.random.one_of(&[0, 65, 66, 255]);

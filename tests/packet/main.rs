@@ -34,11 +34,11 @@ mod tally;
 #[path = "../reference/transfer.rs"]
 mod transfer;
 
+use batches::{part, Case as _};
 use cases::{Case, BOARD_SUBJECT, PACKET_SUBJECT, TRANSFER_SUBJECT};
 use classes::Class;
 use comparison::{Comparison, Part};
 use std::process::ExitCode;
-use tally::Tally;
 
 // Generated packets for each seed.
 const PACKETS: usize = 16_000;
@@ -48,7 +48,7 @@ const FRAGMENTS: usize = 16_000;
 fn main() -> ExitCode {
     let comparison = Comparison {
         name: "packet",
-        tally: Tally::new(Class::all()),
+        tally: Case::tally(),
         least: 25,
     };
     comparison.main(parts)
@@ -70,16 +70,4 @@ fn parts<'a>(program: &'a str, seeds: &'a [u64]) -> Vec<Part<'a, Class>> {
         parts.push(part(program, TRANSFER_SUBJECT, fragments));
     }
     parts
-}
-
-fn part<'a>(
-    program: &'a str,
-    subject: &'a str,
-    cases: impl Iterator<Item = Case> + Send + 'a,
-) -> Part<'a, Class> {
-    Box::new(move || {
-        let mut tally = Tally::new(Class::all());
-        batches::run(program, subject, cases, &mut tally)?;
-        Ok(tally)
-    })
 }

@@ -163,8 +163,7 @@ fn signed(bytes: &[u8]) -> Option<i64> {
 #[cfg(test)]
 mod known_answers {
     use super::*;
-
-    const CASE_6: &[u8] = b"\x01\x03\x00\x00\x01\x02h1\x16\x04\x00\x00\x0d\x7a";
+    use crate::packet::CASE_6;
 
     fn board() -> Board {
         let mut board = Board::default();

@@ -18,6 +18,9 @@ pub const DATA: u8 = 0x01;
 /// What stands before the items: 01, the opcode and the request id.
 pub const HEAD: usize = 4;
 
+/// The payload of case 6, which sets h1 to 3450.
+pub const CASE_6: &[u8] = b"\x01\x03\x00\x00\x01\x02h1\x16\x04\x00\x00\x0d\x7a";
+
 /// Why bytes are no packet.
 #[derive(Clone, Copy, Debug, PartialEq, Eq)]
 pub enum Refusal {
@@ -151,9 +154,6 @@ pub fn is_location(bytes: &[u8]) -> bool {
 #[cfg(test)]
 mod known_answers {
     use super::*;
-
-    /// The payload of case 6.
-    const CASE_6: &[u8] = b"\x01\x03\x00\x00\x01\x02h1\x16\x04\x00\x00\x0d\x7a";
 
     fn refused(bytes: &[u8]) -> u8 {
         read_packet(bytes).expect_err("a refusal").number()

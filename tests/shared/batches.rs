@@ -2,6 +2,7 @@
 //! reference.
 
 use crate::child;
+use crate::comparison::Part;
 use crate::tally::Tally;
 use std::fmt::Debug;
 
@@ -20,6 +21,9 @@ pub struct Step<Class> {
 /// One or more lines that belong together.
 pub trait Case {
     type Class: Copy + Debug + PartialEq;
+
+    /// Each kind of answer, not met yet.
+    fn tally() -> Tally<Self::Class>;
 
     fn steps(&self, label: &str) -> Vec<Step<Self::Class>>;
 }
@@ -82,13 +86,22 @@ fn difference(lines: &[(String, String)], wanted: &str, rest: &str) -> String {
     format!("{lines}wanted\n{wanted}printed\n{printed}")
 }
 
+/// The part of a comparison that runs these cases.
+pub fn part<'a, C: Case>(
+    program: &'a str,
+    subject: &'a str,
+    cases: impl Iterator<Item = C> + Send + 'a,
+) -> Part<'a, C::Class> {
+    Box::new(move || run(program, subject, cases))
+}
+
 /// Runs the program on all cases of a subject, and counts the kinds of answer that they wanted.
-pub fn run<C: Case>(
+fn run<C: Case>(
     program: &str,
     subject: &str,
     cases: impl Iterator<Item = C>,
-    tally: &mut Tally<C::Class>,
-) -> Result<(), String> {
+) -> Result<Tally<C::Class>, String> {
+    let mut tally = C::tally();
     let mut batch = Batch::new(subject);
     for (number, case) in cases.enumerate() {
         let steps = case.steps(&number.to_string());
@@ -101,5 +114,6 @@ pub fn run<C: Case>(
             batch = Batch::new(subject);
         }
     }
-    batch.compare(program)
+    batch.compare(program)?;
+    Ok(tally)
 }

@@ -30,6 +30,11 @@ pub record Reached (bytes : List ℕ) (kind : ℕ) (survey : Survey) (at : ℕ) 
   pub among : survey .count ≤ survey .all
   pub still : tallyFrom survey at kind (itemsOf (drop at bytes)) ≡ tallyOf headLength kind (itemsOf (drop headLength bytes))
 
+-- an item that the reader found at the place at: it lies behind that place, and once it is read the reader stands behind it
+pub record Passed (bytes : List ℕ) (kind : ℕ) (survey : Survey) (at k start size : ℕ) : Type 0 where
+  pub further : at < start + size
+  pub reached : Reached bytes kind (withItem survey (At k start size) (eqb k kind)) (start + size)
+
 module _ (bytes : List ℕ) (kind : ℕ) where
   pub reached-first : headLength ≤ length bytes → Reached bytes kind noItems headLength
   reached-first long =
@@ -51,14 +56,10 @@ module _ (bytes : List ℕ) (kind : ℕ) where
       found : Begins at (drop at bytes) k start size
       found = begins-with at (drop at bytes) k start size e
 
-      -- an item lies within the packet, behind the place where it was looked for
-      pub item-within : start + size ≤ length bytes
-      item-within =
+      within : start + size ≤ length bytes
+      within =
           let room : getD (drop at bytes) 1 0 + 2 ≤ length (drop at bytes) = begins-room (drop at bytes) (found .begins) in
           omega (arith, length-drop at bytes, found .sized, found .starts, here .within)
-
-      pub item-further : at < start + size
-      item-further = omega (arith, found .starts)
 
       -- the items from here on are it and those behind it
       rest-read : itemsOf (drop at bytes) ≡ inFront (firstItem (drop at bytes)) (itemsOf (drop (start + size) bytes))
@@ -71,12 +72,14 @@ module _ (bytes : List ℕ) (kind : ℕ) where
           let next = tally-on survey at kind item (itemsOf (drop (start + size) bytes)) in
           (rw (← read, is, passed, kinded) at next) ∙ here .still
 
-      -- it is read, and the reader stands behind it
-      pub reached-item : Reached bytes kind (withItem survey (At k start size) (eqb k kind)) (start + size)
-      reached-item =
+      pub item-read : Passed bytes kind survey at k start size
+      item-read =
           record {
-            within = item-within;
-            few = omega (arith, here .few, found .starts);
-            among = counted (survey .count) (survey .all) (eqb k kind) (here .among);
-            still = still-told (firstItem (drop at bytes)) (found .is) (found .passed) (found .kinded) rest-read;
+            further = omega (arith, found .starts);
+            reached = record {
+              within = within;
+              few = omega (arith, here .few, found .starts);
+              among = counted (survey .count) (survey .all) (eqb k kind) (here .among);
+              still = still-told (firstItem (drop at bytes)) (found .is) (found .passed) (found .kinded) rest-read;
+            };
           }

@@ -9,6 +9,9 @@ ghost use Rattle.packet.specs.ReaderSteps.{beginsWithItem, itemFrom, ear
 use crate::EOF_KIND;
 use crate::HEAD_LENGTH;
 
+// A type byte and a length byte stand in front of an item's value.
+const ITEM_HEAD: usize = 2;
+
 // An item of a packet: its kind, where in the packet its value starts, and the value's length.
 pub enum Found {
     At {
@@ -69,7 +72,7 @@ fn item_at(s: &[u8], at: usize) -> Found
     }
     Found::At {
         kind: rest[0],
-        start: at + 2,
+        start: at + ITEM_HEAD,
         length: rest[1] as usize,
     }
 }
@@ -78,11 +81,11 @@ fn item_at(s: &[u8], at: usize) -> Found
 fn begins_with_item(rest: &[u8]) -> bool
     ensures { λ r. ⌜ r ≡ beginsWithItem (now (rest .entry)) ⌝ }
 {
-    if rest.len() < 2 {
+    if rest.len() < ITEM_HEAD {
         return false;
     }
     let length = rest[1] as usize;
-    let end = length + 2;
+    let end = length + ITEM_HEAD;
     if rest.len() < end {
         return false;
     }

@@ -24,6 +24,7 @@ fn empty_items() -> [u8; LONG_ROOM] {
     [0u8; LONG_ROOM]
 }
 
+// The packet is made in `packet`, which is full of empty items.
 fn show_in(line: &[u8], bytes: &[u8], packet: &mut [u8]) {
     if bytes.len() < SIZE_END {
         line::not_run(line, b"too few bytes");

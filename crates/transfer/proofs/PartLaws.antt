@@ -1,15 +1,16 @@
 -- The laws of a packet's parts: their counts settle whether the items are right, and what is found of a kind has the value of the
 -- first item of the kind.
-use mathlib.Core.Path.{_≡_, sym, ap}
+use mathlib.Core.Path.{_≡_, sym, ap, _∙_}
 use mathlib.Core.Bool.{false}
 use mathlib.Core.List.{List}
 use Prim.Native.Nat.{ℕ, _+_, _≤_, _<_}
 use lib.Dec.{eqb, ltb}
 use borrow.Author.Tests.{ne-eqb, le-leb, lt-leb}
-use Rattle.packet.specs.ItemTypes.{binaryKind, offsetKind, lengthKind, locationKind}
+use Rattle.packet.specs.ItemTypes.{lengthKind}
 use Rattle.packet.specs.Items.{countOf, valueBytes, valueIn}
-use Rattle.packet.specs.Packet.{packetItems}
-use Rattle.packet.specs.Answers.{itemAt}
+use Rattle.packet.specs.Packet.{headLength, packetItems}
+use Rattle.packet.specs.Answers.{findIn, itemAt}
+use Rattle.packet.specs.declared.items.Found.{Found}
 use Rattle.packet.proofs.FoundLaws.{value-found}
 use Rattle.transfer.specs.Fragment.{rightItems, isLast, good}
 use Rattle.transfer.specs.Steps.{partsOf, rightParts, fragmentWith, asForm}
@@ -66,15 +67,6 @@ module _ (bytes : List ℕ) (parts : Parts) (same : parts ≡ partsOf bytes) whe
   unfolding isLast
   good-by-parts fragment offset declared made = ap Good (rw same at made)
 
-  -- the values of what is found
-  pub location-value : valueBytes (itemAt bytes (parts .location)) ≡ valueIn locationKind (packetItems bytes)
-  location-value = value-found bytes locationKind (parts .location) (sym (ap (λ (p : Parts). p .location) same))
-
-  pub offset-value : valueBytes (itemAt bytes (parts .offset)) ≡ valueIn offsetKind (packetItems bytes)
-  offset-value = value-found bytes offsetKind (parts .offset) (sym (ap (λ (p : Parts). p .offset) same))
-
-  pub binary-value : valueBytes (itemAt bytes (parts .binary)) ≡ valueIn binaryKind (packetItems bytes)
-  binary-value = value-found bytes binaryKind (parts .binary) (sym (ap (λ (p : Parts). p .binary) same))
-
-  pub length-value : valueBytes (itemAt bytes (parts .length)) ≡ valueIn lengthKind (packetItems bytes)
-  length-value = value-found bytes lengthKind (parts .length) (sym (ap (λ (p : Parts). p .length) same))
+  -- what is found of a kind has the value of the first item of the kind
+  pub part-value : (place : Parts → Found) (kind : ℕ) → findIn headLength kind (packetItems bytes) ≡ place (partsOf bytes) → valueBytes (itemAt bytes (place parts)) ≡ valueIn kind (packetItems bytes)
+  part-value place kind found = value-found bytes kind (place parts) (found ∙ ap place (sym same))

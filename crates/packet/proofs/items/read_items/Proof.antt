@@ -1,14 +1,13 @@
 -- `packet::items::read_items` meets its contract. The invariant says where the reader stands, and the bytes left fall by the item read.
 use mathlib.Core.Path.{_≡_, sym, _∙_}
 use mathlib.Core.List.{List}
-use Prim.Native.Nat.{ℕ, _+_, _-_, _≤_, _<_}
+use Prim.Native.Nat.{ℕ, _-_}
 use native.Mathlib.Omega.{arith}
 use borrow.Author.Needs.{needs}
-use lib.Dec.{eqb}
 use lib.ListN.{length, drop}
-use Rattle.packet.specs.ReaderSteps.{itemFrom, withItem}
+use Rattle.packet.specs.ReaderSteps.{itemFrom}
 use Rattle.packet.specs.declared.items.Found.the-variants.{At}
-use Rattle.packet.proofs.ReaderLaws.{Reached, reached-first, reached-broken, reached-last, item-within, item-further, reached-item}
+use Rattle.packet.proofs.ReaderLaws.{Reached, Passed, reached-first, reached-broken, reached-last, item-read}
 use Rattle.packet.proofs.items.read_items.Statement.{statement}
 use Rattle.packet.proofs.items.read_items.Tie as tie
 
@@ -42,19 +41,10 @@ size-of c = c .item .given .0 .1 .1 .0
 found : (c : tie.After-item Inv-loop μ-loop) → itemFrom (loop-of c .loop .at) (drop (loop-of c .loop .at) (packet-at (loop-of c))) ≡ At (kind-of c) (start-of c) (size-of c)
 found c = sym (c .before .before .item-at .ensures) ∙ c .item .given .1
 
--- it lies within the packet, behind the place where the loop stood
-module _ (c : tie.After-item Inv-loop μ-loop) where
-  abbrev loop : tie.At-loop Inv-loop μ-loop
-  loop = loop-of c
-
-  within : start-of c + size-of c ≤ length (packet-at loop)
-  within = item-within (packet-at loop) (wanted-at loop) (loop .loop .survey) (loop .loop .at) (loop .loop .inv) (kind-of c) (start-of c) (size-of c) (found c)
-
-  further : loop .loop .at < start-of c + size-of c
-  further = item-further (packet-at loop) (wanted-at loop) (loop .loop .survey) (loop .loop .at) (loop .loop .inv) (kind-of c) (start-of c) (size-of c) (found c)
-
-  read : Reached (packet-at loop) (wanted-at loop) (withItem (loop .loop .survey) (At (kind-of c) (start-of c) (size-of c)) (eqb (kind-of c) (wanted-at loop))) (start-of c + size-of c)
-  read = reached-item (packet-at loop) (wanted-at loop) (loop .loop .survey) (loop .loop .at) (loop .loop .inv) (kind-of c) (start-of c) (size-of c) (found c)
+passed : (c : tie.After-item Inv-loop μ-loop) → (let loop = loop-of c in Passed (packet-at loop) (wanted-at loop) (loop .loop .survey) (loop .loop .at) (kind-of c) (start-of c) (size-of c))
+passed c =
+    let loop = loop-of c in
+    item-read (packet-at loop) (wanted-at loop) (loop .loop .survey) (loop .loop .at) (loop .loop .inv) (kind-of c) (start-of c) (size-of c) (found c)
 
 no-items-requires : tie.Need-no-items-requires Inv-loop μ-loop
 no-items-requires c κs = tt
@@ -86,16 +76,16 @@ with-item-requires c κs =
     (omega (arith, loop .inv .few, loop .inv .within), omega (arith, loop .inv .few, loop .inv .among, loop .inv .within))
 
 add-at : tie.Need-add-at Inv-loop μ-loop
-add-at c = let h = within (c .before .before) in omega arith
+add-at c = let fits = passed (c .before .before) .reached .within in omega arith
 
 loop-less : tie.Need-loop-less Inv-loop μ-loop
 loop-less c =
-    let fits = within (c .before .before) in
-    let more = further (c .before .before) in
+    let fits = passed (c .before .before) .reached .within in
+    let more = passed (c .before .before) .further in
     omega arith
 
 loop-again : tie.Need-loop-again Inv-loop μ-loop
-loop-again c = rw (c .with-item .ensures) (read (c .before .before))
+loop-again c = rw (c .with-item .ensures) (passed (c .before .before) .reached)
 
 returns-2 : tie.Need-returns-2 Inv-loop μ-loop
 returns-2 c =

@@ -1,17 +1,18 @@
 -- `transfer::fragment::read_form` meets its contract: the tests go in the order of the definition, and each way has its law.
-use mathlib.Core.Path.{_≡_, sym, ap, _∙_}
+use mathlib.Core.Path.{_≡_, refl, sym, ap, _∙_}
 use mathlib.Core.Bool.{true}
 use mathlib.Core.List.{List}
 use mathlib.Core.Option.{Option, none, some}
 use Prim.Native.Nat.{ℕ}
 use borrow.Author.Tests.{not-true, not-false}
-use Rattle.packet.specs.ItemTypes.{offsetKind}
+use Rattle.packet.specs.ItemTypes.{offsetKind, locationKind}
 use Rattle.packet.specs.Items.{Item, valueIn}
 use Rattle.packet.specs.Names.{validLocation}
 use Rattle.packet.specs.Packet.{packetItems}
 use Rattle.transfer.specs.Fragment.{numberOf, rightItems, rightLocation, formAt, formOf}
 use Rattle.transfer.specs.Steps.{asNumber, asForm}
-use Rattle.transfer.proofs.PartLaws.{right-by-parts, location-value, offset-value}
+use Rattle.transfer.specs.declared.parts.Parts.{Parts}
+use Rattle.transfer.proofs.PartLaws.{right-by-parts, part-value}
 use Rattle.transfer.proofs.FormLaws.{form-items, form-location, form-binary, form-at}
 use Rattle.transfer.proofs.StepLaws.{number-told, no-number-told}
 use borrow.Author.Needs.{needs}
@@ -40,7 +41,7 @@ located : (c : tie.After-valid-location) → let start = start (c .before .befor
 unfolding rightLocation
 located c =
     let start = start (c .before .before) in
-    c .valid-location .ensures ∙ ap validLocation (c .before .value-at .ensures ∙ location-value (bytes start) (start .args .parts) (start .pre))
+    c .valid-location .ensures ∙ ap validLocation (c .before .value-at .ensures ∙ part-value (bytes start) (start .args .parts) (start .pre) (λ (p : Parts). p .location) locationKind refl)
 
 location : (c : tie.Else2) → rightLocation (items (start (c .before .before .before))) ≡ true
 location c = sym (located (c .before)) ∙ not-false _ (c .if2 .left)
@@ -60,7 +61,7 @@ number : (c : tie.After-read-number) → c .read-number .result ≡ asNumber (nu
 number c =
     let start = start (first c) in
     c .read-number .ensures
-    ∙ ap (λ (value : List ℕ). asNumber (numberOf value)) (c .before .value-at2 .ensures ∙ offset-value (bytes start) (start .args .parts) (start .pre))
+    ∙ ap (λ (value : List ℕ). asNumber (numberOf value)) (c .before .value-at2 .ensures ∙ part-value (bytes start) (start .args .parts) (start .pre) (λ (p : Parts). p .offset) offsetKind refl)
 
 -- past the three tests the form goes by the Offset
 formed : (c : tie.After-read-number) (offset : Option ℕ) → (let start = start (first c) in numberOf (valueIn offsetKind (items start)) ≡ offset

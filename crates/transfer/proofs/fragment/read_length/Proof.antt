@@ -1,6 +1,6 @@
 -- `transfer::fragment::read_length` meets its contract: each answer is the law for whether there is a Length, stands at offset
 -- 0 and is a number.
-use mathlib.Core.Path.{_≡_, sym, ap, _∙_}
+use mathlib.Core.Path.{_≡_, refl, sym, ap, _∙_}
 use mathlib.Core.List.{List}
 use mathlib.Core.Option.{Option, none, some}
 use Prim.Native.Nat.{ℕ}
@@ -10,7 +10,8 @@ use Rattle.packet.specs.Packet.{packetItems}
 use Rattle.transfer.specs.Fragment.{numberOf, isLast, declaring, formAt}
 use Rattle.transfer.specs.Steps.{asNumber, asForm}
 use Rattle.transfer.specs.declared.state.Declared.the-variants.{Unknown, Known}
-use Rattle.transfer.proofs.PartLaws.{lengths-by-parts, good-by-parts, length-value}
+use Rattle.transfer.specs.declared.parts.Parts.{Parts}
+use Rattle.transfer.proofs.PartLaws.{lengths-by-parts, good-by-parts, part-value}
 use Rattle.transfer.proofs.FormLaws.{at-undeclared, at-late, at-declared}
 use Rattle.transfer.proofs.StepLaws.{number-told, no-number-told}
 use borrow.Author.Needs.{needs}
@@ -45,7 +46,7 @@ number : (c : tie.After-read-number) → c .read-number .result ≡ asNumber (nu
 number c =
     let args = first c .args in
     c .read-number .ensures
-    ∙ ap (λ (value : List ℕ). asNumber (numberOf value)) (c .before .value-at .ensures ∙ length-value (args .packet .now) (args .parts) (first c .pre))
+    ∙ ap (λ (value : List ℕ). asNumber (numberOf value)) (c .before .value-at .ensures ∙ part-value (args .packet .now) (args .parts) (first c .pre) (λ (p : Parts). p .length) lengthKind refl)
 
 declared : (c : tie.After-read-number) (length : Option ℕ) → numberOf (valueIn lengthKind (items (first c))) ≡ length
     → declaring (first c .args .offset) (isLast (items (first c))) length ≡ formAt (items (first c)) (some (first c .args .offset))

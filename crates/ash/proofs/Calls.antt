@@ -65,15 +65,18 @@ frame-out {control} {payload} {before} {n} {after} w =
     let frame = wrote-frame (length before) control payload (t .bytes) (t .is) in
     record { short = frame .short; is = put-told before after (t .bytes) n (t .put) (t .size) (frame .fits) ∙ frame .is }
 
--- where a call answered a control byte and n, the first n bytes of the output are the payload of the frame
-pub frame-in : {bytes before : List ℕ} {control n : ℕ} {after : List ℕ} → Reads bytes before (Frame control n) after
+-- where a control byte and n were answered, the first n bytes of the output are the payload of the frame
+pub frame-found : (bytes before : List ℕ) (control n : ℕ) (after : List ℕ) → ReadsAs (readFrame (length before) bytes) before (Frame control n) after
     → readFrame (length before) bytes ≡ reading.frame control (take n after)
-frame-in {bytes} {before} {control} {n} {after} r =
-    let did = was-read r in
+frame-found bytes before control n after did =
     let f = found (readFrame (length before) bytes) control n (did .answers) in
     let put : after ≡ putAt before 0 (f .payload) = did .output ∙ ap (λ (x : reading.Read). putAt before 0 (readPayload x)) (f .is) in
     let fits = taken-fits (length before) bytes control (f .payload) (f .is) in
     rw (put-told before after (f .payload) n put (f .size) fits) (f .is)
+
+pub frame-in : {bytes before : List ℕ} {control n : ℕ} {after : List ℕ} → Reads bytes before (Frame control n) after
+    → readFrame (length before) bytes ≡ reading.frame control (take n after)
+frame-in {bytes} {before} {control} {n} {after} r = frame-found bytes before control n after (was-read r)
 
 -- Such calls are there, since the contracts ask nothing: one for all that can be lent.
 pub all-payloads-are-written : (control : ℕ) (payload before : List ℕ)

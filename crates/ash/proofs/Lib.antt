@@ -9,6 +9,7 @@ pub mod StuffTheorems
 pub mod PayloadLaws
 pub mod FrameTheorems
 pub mod TakenLaws
+pub mod SizeLaws
 pub mod OnlyWritten
 pub mod Calls
 pub mod FreePayload

@@ -1,6 +1,7 @@
 pub mod Reserved
 pub mod Stuffing
 pub mod Header
+pub mod Size
 pub mod Check
 pub mod Writing
 pub mod Reading

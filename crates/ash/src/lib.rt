@@ -1,9 +1,10 @@
 // Frames of the ASHv3 link, which the second radio chip speaks (document 02, C-11; source document
-// 002): the frame writer and the reader of one frame.
+// 002): the frame writer, the reader of one frame, and how long a frame is by its header.
 mod check;
 mod escapes;
 mod header;
 pub mod reader;
+pub mod size;
 mod stuffing;
 pub mod writer;
 
@@ -24,5 +25,7 @@ pub const PAYLOAD_MAX: usize = 57;
 pub const HEADER_SIZE: usize = 4;
 // A frame with an empty payload: header and three check bytes.
 pub const FRAME_MIN: usize = 7;
+// The longest frame.
+pub const FRAME_MAX: usize = PAYLOAD_MAX + FRAME_MIN;
 // The start value of this link's check.
 pub const CHECK_START: u16 = 0;

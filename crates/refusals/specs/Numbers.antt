@@ -96,3 +96,11 @@ badStuffing = 23
 -- 02, C-11: the check bytes of an ASHv3 frame are other than the writer's
 abbrev pub otherCheck : ℕ
 otherCheck = 24
+
+-- 02, C-21: data to send while RESET ACK is awaited
+abbrev pub resetAckAwaited : ℕ
+resetAckAwaited = 28
+
+-- 02, C-21: data to send while two frames are held
+abbrev pub twoFramesHeld : ℕ
+twoFramesHeld = 29

@@ -73,3 +73,9 @@ pub const BAD_STUFFING: u8 = 23;
 
 // The check bytes of an ASHv3 frame are other than the writer's.
 pub const OTHER_CHECK: u8 = 24;
+
+// Data to send while the answer to our RESET is awaited.
+pub const RESET_ACK_AWAITED: u8 = 28;
+
+// Data to send while two frames are held.
+pub const TWO_FRAMES_HELD: u8 = 29;

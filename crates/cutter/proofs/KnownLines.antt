@@ -1,0 +1,44 @@
+-- Known lines, computed by the definition: C-11's RESET and RESET ACK among wake bytes and faults.
+use mathlib.Core.Path.{_≡_, refl}
+use mathlib.Core.List.{List, [], _∷_, _++_}
+use Prim.Native.Nat.{ℕ}
+use lib.ListN.{replicate}
+use Rattle.ash.specs.Reserved.{reserved}
+use Rattle.ash.specs.Header.{goodHeader}
+use Rattle.ash.specs.Size.{frameSize}
+use Rattle.cutter.specs.Cutting.{joinedStep, stepOf, framesFrom, framesOf}
+
+abbrev reset : List ℕ
+reset = 0x7e ∷ 0x00 ∷ 0x08 ∷ 0x00 ∷ 0x69 ∷ 0x86 ∷ 0x00 ∷ []
+
+abbrev resetAck : List ℕ
+resetAck = 0x7e ∷ 0x00 ∷ 0x49 ∷ 0x00 ∷ 0x47 ∷ 0x6b ∷ 0xc0 ∷ []
+
+-- wake bytes before, between and behind frames
+among-wakes : framesOf (0xff ∷ 0xff ∷ [] ++ reset ++ (0xff ∷ []) ++ resetAck ++ (0xff ∷ [])) ≡ reset ∷ resetAck ∷ []
+unfolding framesFrom stepOf joinedStep frameSize goodHeader reserved
+among-wakes = refl
+
+-- a frame that is cut short by the next flag, and one that never ends
+cut-short : framesOf (0x7e ∷ 0x00 ∷ 0x08 ∷ [] ++ reset ++ (0x7e ∷ 0x00 ∷ [])) ≡ (0x7e ∷ 0x00 ∷ 0x08 ∷ []) ∷ reset ∷ []
+unfolding framesFrom stepOf joinedStep frameSize goodHeader reserved
+cut-short = refl
+
+-- stray bytes between frames are one fault, ff behind the first of them too
+stray-bytes : framesOf (0x01 ∷ 0xff ∷ 0x02 ∷ [] ++ reset) ≡ (0x01 ∷ []) ∷ reset ∷ []
+unfolding framesFrom stepOf joinedStep frameSize goodHeader reserved
+stray-bytes = refl
+
+-- reserved header escape bits, and a length of 58
+bad-headers : framesOf (0x7e ∷ 0x01 ∷ 0x08 ∷ 0x00 ∷ 0x69 ∷ [] ++ (0x7e ∷ 0x00 ∷ 0x08 ∷ 0x3a ∷ 0x69 ∷ []) ++ reset)
+    ≡ (0x7e ∷ 0x01 ∷ 0x08 ∷ 0x00 ∷ []) ∷ (0x7e ∷ 0x00 ∷ 0x08 ∷ 0x3a ∷ []) ∷ reset ∷ []
+unfolding framesFrom stepOf joinedStep frameSize goodHeader reserved
+bad-headers = refl
+
+-- a length of 17, sent as 31 with its header escape: 24 bytes, ff among them
+abbrev escapedLength : List ℕ
+escapedLength = 0x7e ∷ 0x40 ∷ 0x88 ∷ 0x31 ∷ [] ++ replicate 20 0xff
+
+escaped-length : framesOf (escapedLength ++ (0xff ∷ []) ++ reset) ≡ escapedLength ∷ reset ∷ []
+unfolding framesFrom stepOf joinedStep frameSize goodHeader reserved
+escaped-length = refl

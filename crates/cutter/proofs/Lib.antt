@@ -1,0 +1,16 @@
+pub mod PlaceLaws
+pub mod TurnLaws
+pub mod JoinLaws
+pub mod WalkLaws
+pub mod CallLaws
+pub mod StreamLaws
+pub mod Handed
+pub mod ReachedLaws
+pub mod WalkReached
+pub mod Chain
+pub mod CallAgreement
+pub mod EveryList
+pub mod Streams
+pub mod GoodFrames
+pub mod FrameCalls
+pub mod KnownLines

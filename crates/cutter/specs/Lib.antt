@@ -1,0 +1,4 @@
+pub mod Cutting
+pub mod Calls
+pub mod Turns
+pub mod History

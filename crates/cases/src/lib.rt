@@ -6,5 +6,6 @@
 // First stands the key, which says what is run, then a space, the label, which is printed, and a
 // colon. Behind it stands each byte of the case: a space and two hexadecimal digits, or a space, a
 // quote and the byte itself.
+pub mod buffer;
 pub mod line;
 pub mod print;

@@ -1,13 +1,17 @@
 // What the cases are about, and what one leaves behind for the next.
 use cases::line;
 use cases::print;
+use cutter::state::Cutter;
 use display::Display;
+use session_cases::Sessions;
 use transfer_cases::Receiving;
 
 enum Subject {
     Nothing,
     Packet,
     Ash,
+    Session,
+    Cutter,
     Board,
     Transfer,
     Display,
@@ -15,6 +19,8 @@ enum Subject {
 
 pub struct State {
     subject: Subject,
+    sessions: Sessions,
+    cutter: Cutter,
     transfer: Receiving,
     display: Display,
 }
@@ -27,6 +33,8 @@ pub(crate) fn first() -> State {
 fn fresh(subject: Subject) -> State {
     State {
         subject,
+        sessions: session_cases::first(),
+        cutter: cutter::fresh(),
         transfer: transfer_cases::first(),
         display: display_cases::fresh_display(),
     }
@@ -46,6 +54,12 @@ fn named(line: &[u8]) -> Subject {
     if slices::same(line, b"= ash") {
         return Subject::Ash;
     }
+    if slices::same(line, b"= session") {
+        return Subject::Session;
+    }
+    if slices::same(line, b"= cutter") {
+        return Subject::Cutter;
+    }
     if slices::same(line, b"= board") {
         return Subject::Board;
     }
@@ -58,13 +72,15 @@ fn named(line: &[u8]) -> Subject {
     Subject::Nothing
 }
 
-// Runs a case. Only the last two subjects leave something behind.
+// Runs a case. The session, the cutter, the transfer and the display leave something behind.
 pub(crate) fn run(state: State, line: &[u8], bytes: &[u8], file: &mut [u8]) -> State {
     let subject = state.subject;
     match subject {
         Subject::Nothing => line::not_run(line, b"no such subject"),
         Subject::Packet => packet_cases::run(line, bytes),
         Subject::Ash => ash_cases::run(line, bytes),
+        Subject::Session => return run_session(state, line, bytes),
+        Subject::Cutter => return run_cutter(state, line, bytes),
         Subject::Board => board_cases::run(line, bytes),
         Subject::Transfer => return run_transfer(state, line, bytes, file),
         Subject::Display => return run_display(state, line, bytes),
@@ -72,24 +88,26 @@ pub(crate) fn run(state: State, line: &[u8], bytes: &[u8], file: &mut [u8]) -> S
     state
 }
 
+fn run_session(state: State, line: &[u8], bytes: &[u8]) -> State {
+    let mut next = state;
+    next.sessions = session_cases::run(state.sessions, line, bytes);
+    next
+}
+
+fn run_cutter(state: State, line: &[u8], bytes: &[u8]) -> State {
+    let mut next = state;
+    next.cutter = cutter_cases::run(state.cutter, line, bytes);
+    next
+}
+
 fn run_transfer(state: State, line: &[u8], bytes: &[u8], file: &mut [u8]) -> State {
-    let subject = state.subject;
-    let transfer = transfer_cases::run(state.transfer, line, bytes, file);
-    let display = state.display;
-    State {
-        subject,
-        transfer,
-        display,
-    }
+    let mut next = state;
+    next.transfer = transfer_cases::run(state.transfer, line, bytes, file);
+    next
 }
 
 fn run_display(state: State, line: &[u8], bytes: &[u8]) -> State {
-    let subject = state.subject;
-    let transfer = state.transfer;
-    let display = display_cases::run(state.display, line, bytes);
-    State {
-        subject,
-        transfer,
-        display,
-    }
+    let mut next = state;
+    next.display = display_cases::run(state.display, line, bytes);
+    next
 }

@@ -22,7 +22,8 @@ BENCH_CFLAGS := -std=c99 -O3 $(WARNINGS) -Iinclude
 HEADERS := $(wildcard include/*.h $(addsuffix /*.h,tests/c tests/fuzz bench examples/firmware))
 C_TESTS := known_answers writer reader header collector line
 TESTS := $(C_TESTS) serial reference differential replay_reference replay_test \
-	history_text history_text_test ash_reference ash_test packet_reference packet_test
+	history_text history_text_test ash_reference ash_test packet_reference packet_test \
+	session_reference session_test
 PLAIN := bench/plain_frame.c bench/plain_crc.c
 MEASURED := bench/workload.c $(PLAIN)
 RECEIVER ?= target/bin/receive_bench
@@ -145,6 +146,14 @@ $(OUT)/packet_test: $(PACKET_TEST) | $(OUT)
 $(OUT)/packet_reference: $(PACKET_TEST) crates/run_cases/stdin crates/run_cases/stdout | $(OUT)
 	$(call rust,--test)
 
+SESSION_TEST := tests/session/main.rs $(wildcard tests/session/*.rs) $(RUST_SHARED)
+
+$(OUT)/session_test: $(SESSION_TEST) | $(OUT)
+	$(call rust)
+
+$(OUT)/session_reference: $(SESSION_TEST) crates/run_cases/stdin crates/run_cases/stdout | $(OUT)
+	$(call rust,--test)
+
 CAPTURE := examples/captures/line
 CASE_6 := examples/histories/case_6
 
@@ -168,6 +177,8 @@ test: $(addprefix $(OUT)/,$(TESTS)) $(OUT)/display $(REPLAY) $(CASES)
 	@$(OUT)/ash_test $(CASES)
 	@$(OUT)/packet_reference --quiet
 	@$(OUT)/packet_test $(CASES)
+	@$(OUT)/session_reference --quiet
+	@$(OUT)/session_test $(CASES)
 	@tests/mutants/written.py --apply-only
 	@tests/mutants/table.py --check
 
@@ -233,7 +244,7 @@ valgrind: $(addprefix $(OUT)/,$(C_TESTS) serial differential replay_test display
 # Mutants: small wrong programs, each to be refused
 
 # The crates that have code to change, and those that have written edits. CRATES=.. names fewer.
-MUTATED := refusals slices crc frame ash host packet value rows board link display transfer history cases
+MUTATED := refusals slices crc frame ash cutter session host packet value rows board link display transfer history cases
 EDITED := $(notdir $(wildcard tests/mutants/written/*))
 # On the contracts of `cases` no library rests that has a theorem.
 EMPTIED := $(filter-out cases,$(MUTATED))
@@ -255,7 +266,7 @@ written-edits:
 ##                       above (python3)
 emptied:
 	$(need_rt)
-	rt check $(or $(CRATES),$(EMPTIED)) ledger answers
+	rt check $(or $(CRATES),$(EMPTIED)) conversation ledger answers
 	mkdir -p $(OUT)
 	tests/mutants/emptied.py $(OUT)/emptied $(or $(CRATES),$(EMPTIED))
 

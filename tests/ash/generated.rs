@@ -4,6 +4,7 @@
 use crate::ash::{
     stuff, Parts, CONTROL_ESCAPED, ESCAPE, FLAG, FLIP, LENGTH_ESCAPED, PAYLOAD_MAX, RESERVED,
 };
+use crate::ash_inputs::{byte, damage, payload};
 use crate::cases::{Case, LINE_BYTES_MAX, OUTPUT_MAX};
 use crate::random::Random;
 
@@ -65,16 +66,6 @@ fn read_case(random: &mut Random) -> Case {
     Case::Read { room, frame }
 }
 
-/// Any byte, a reserved one, or what a reserved one is sent as.
-fn byte(random: &mut Random) -> u8 {
-    let reserved = random.one_of(&RESERVED);
-    match random.below(4) {
-        0 => reserved,
-        1 => reserved ^ FLIP,
-        _ => random.byte(),
-    }
-}
-
 /// The lengths that are escaped and the greatest ones come often.
 fn sent_length(random: &mut Random) -> usize {
     match random.below(3) {
@@ -82,22 +73,6 @@ fn sent_length(random: &mut Random) -> usize {
         1 => random.below(8),
         _ => random.below(PAYLOAD_MAX + 1),
     }
-}
-
-/// A payload of so many bytes as sent.
-fn payload(random: &mut Random, sent_length: usize) -> Vec<u8> {
-    let biased = random.below(3) == 0;
-    let mut payload = Vec::new();
-    let mut left = sent_length;
-    while left > 0 {
-        let byte = if biased { byte(random) } else { random.byte() };
-        let sent = stuff(&[byte]).len();
-        if sent <= left {
-            payload.push(byte);
-            left -= sent;
-        }
-    }
-    payload
 }
 
 fn right(random: &mut Random) -> Parts {
@@ -165,24 +140,6 @@ fn alter_check(random: &mut Random, frame: &mut [u8]) {
     let behind = random.below(3);
     if let Some(byte) = frame.iter_mut().rev().nth(behind) {
         *byte ^= bits;
-    }
-}
-
-/// A bit flipped, a byte put in, dropped, doubled or replaced, or the rest cut off.
-fn damage(random: &mut Random, frame: &mut Vec<u8>) {
-    let other = byte(random);
-    if frame.is_empty() {
-        frame.push(other);
-        return;
-    }
-    let place = random.below(frame.len());
-    match random.below(6) {
-        0 => frame[place] ^= 1 << random.below(8),
-        1 => frame.insert(place, other),
-        2 => drop(frame.remove(place)),
-        3 => frame.insert(place, frame[place]),
-        4 => frame[place] = other,
-        _ => frame.truncate(place),
     }
 }
 

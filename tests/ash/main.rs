@@ -5,6 +5,8 @@
 
 #[path = "../reference/ash.rs"]
 mod ash;
+#[path = "../shared/ash_inputs.rs"]
+mod ash_inputs;
 #[path = "../shared/batches.rs"]
 mod batches;
 mod cases;

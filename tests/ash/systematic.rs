@@ -3,6 +3,7 @@
 use crate::ash::{
     Parts, CONTROL_ESCAPED, ESCAPE, FLAG, FLIP, LENGTH_ESCAPED, PAYLOAD_MAX, RESERVED,
 };
+use crate::ash_inputs::{plain, stuffed};
 use crate::cases::{Case, OUTPUT_MAX};
 
 const RESET: u8 = 0x08;
@@ -21,18 +22,6 @@ pub fn cases() -> impl Iterator<Item = Case> {
 fn read(frame: Vec<u8>) -> Case {
     let room = PAYLOAD_MAX;
     Case::Read { room, frame }
-}
-
-/// So many bytes as sent, none of them escaped.
-fn plain(sent_length: usize) -> Vec<u8> {
-    vec![b'a'; sent_length]
-}
-
-/// So many bytes as sent, as many of them escaped as can be.
-fn stuffed(sent_length: usize) -> Vec<u8> {
-    let mut payload: Vec<u8> = RESERVED.into_iter().cycle().take(sent_length / 2).collect();
-    payload.extend(plain(sent_length % 2));
-    payload
 }
 
 /// Each control byte with payloads at the limits: written into more, into just enough and into one

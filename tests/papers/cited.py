@@ -17,7 +17,8 @@ A citation is a place and, right behind it in backticks, names that stand there:
 Between the names of one place only a comma, a colon, "and", "or" and a remark in brackets may stand. A name
 without a place has to be a crate, a path, a folder with its slash, a `make` target, a name of the C header,
 a path crate::module::name of the code, or one of WORDS. In "`new` for `old`" the old code has to stand in
-the sources, word for word. Rows of CLAIMS.md have ids, each once. Whatever cannot be placed is a failure.
+the sources, word for word. Two digits with a slash, as 1/0, are the counters of a frame and no path. Rows of
+CLAIMS.md have ids, each once. Whatever cannot be placed is a failure.
 """
 import re
 import sys
@@ -32,7 +33,7 @@ WORDS = {"requires", "ensures", "Learnt", "Asked", 'extern "C"', "let .. else", 
          "main", "read", "write", "memcpy", "memset", "refused 15", "reply", "N passed, 0 failed"}
 
 ENDINGS = "antt|rt|rs|py|sh|md|txt|c|h|cpp|awk|edit|history|expected|capture"
-PATH = re.compile(r"(?<![\w/.:<-])(?:[.\w*+-]+(?:/[\w.*+-]+)+/?|[\w*-]+\.(?:" + ENDINGS + r")\b)")
+PATH = re.compile(r"(?<![\w/.:<-])(?!\d/\d\b)(?:[.\w*+-]+(?:/[\w.*+-]+)+/?|[\w*-]+\.(?:" + ENDINGS + r")\b)")
 CODE_PATH = re.compile(r"(?<![\w:])(?!std::)[a-z]\w*(?:::\w+)+")
 LINK = re.compile(r"\[[^\]]+\]\(([^)\s]+)\)")
 BETWEEN = re.compile(r"(\s*\([^()`]*\))?(\s*[,:]\s*((and|or)\s+)?|\s+(and|or)\s+)")

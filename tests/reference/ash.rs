@@ -102,6 +102,19 @@ fn read_in_header(sent: u8, escaped: bool) -> Result<u8, Refusal> {
     }
 }
 
+/// The control and length bytes that a header has, escapes undone.
+pub fn read_header(escape: u8, sent_control: u8, sent_length: u8) -> Result<(u8, u8), Refusal> {
+    if escape & !(CONTROL_ESCAPED | LENGTH_ESCAPED) != 0 {
+        return Err(Refusal::ReservedBits);
+    }
+    let control = read_in_header(sent_control, escape & CONTROL_ESCAPED != 0)?;
+    let length = read_in_header(sent_length, escape & LENGTH_ESCAPED != 0)?;
+    if usize::from(length) > PAYLOAD_MAX {
+        return Err(Refusal::LongPayload);
+    }
+    Ok((control, length))
+}
+
 fn flipped_if(escaped: bool, byte: u8) -> u8 {
     if escaped {
         byte ^ FLIP
@@ -194,14 +207,7 @@ pub fn read_frame(bytes: &[u8], room: usize) -> Result<Frame, Refusal> {
     let [_, escape, sent_control, sent_length, sent @ .., first, second, third] = bytes else {
         return Err(Refusal::ShortFrame);
     };
-    if escape & !(CONTROL_ESCAPED | LENGTH_ESCAPED) != 0 {
-        return Err(Refusal::ReservedBits);
-    }
-    let control = read_in_header(*sent_control, escape & CONTROL_ESCAPED != 0)?;
-    let length = read_in_header(*sent_length, escape & LENGTH_ESCAPED != 0)?;
-    if usize::from(length) > PAYLOAD_MAX {
-        return Err(Refusal::LongPayload);
-    }
+    let (control, length) = read_header(*escape, *sent_control, *sent_length)?;
     if usize::from(length) != sent.len() {
         return Err(Refusal::WrongLength);
     }

@@ -45,7 +45,7 @@ pub fn lent(label: &[u8], buffer: &[u8]) {
     number(b"+", rest as u64);
 }
 
-// A label and bytes, two hexadecimal digits each: many at a time, as `bytes` writes them one by one.
+// A label and bytes, two hexadecimal digits each, many bytes in one write.
 pub fn hex(label: &[u8], bytes: &[u8]) {
     text(label);
     let mut at: usize = 0;

@@ -10,11 +10,11 @@ use lib.Dec.{leb}
 use lib.ListN.{length}
 use Rattle.session.specs.declared.counters.OFC.{OFC}
 use Rattle.session.specs.declared.state.Session.{Session}
-use Rattle.conversation.specs.Ledger.{waiting, dropped, Entry, Ledger, handedOut, start, held, gone, dropAll, named, coverTo, coverNamed, cover}
+use Rattle.conversation.specs.Ledger.{waiting, Entry, Ledger, handedOut, start, held, gone, dropAll, named, coverTo, coverNamed, cover}
 use Rattle.conversation.specs.Events.{Event, Effect}
 use Rattle.conversation.specs.OurEvents.{numberOf}
 use Rattle.conversation.specs.Steps.{step, after}
-use Rattle.conversation.specs.Shown.{asHeld, asAnswer, Left, leaves, given, reportedBy, reportedIn, reported}
+use Rattle.conversation.specs.Shown.{asHeld, asAnswer, Left, given, reportedBy, reportedIn, reported}
 use Rattle.conversation.proofs.EntryLaws.{behind, held-covered, held-dropped}
 use Rattle.conversation.proofs.StepCases.{Cases, step-case}
 use Rattle.conversation.proofs.Chain.{Starts, Chain}

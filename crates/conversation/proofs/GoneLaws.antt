@@ -2,15 +2,13 @@
 use mathlib.Core.Path.{_≡_, refl, ap, _∙_}
 use mathlib.Core.Bool.{Bool, true, false, cond}
 use mathlib.Core.List.{List, [], _∷_, _++_, map, append-nil}
-use mathlib.Core.Option.{none}
 use Prim.Native.Nat.{ℕ}
 use lib.Dec.{leb}
 use Rattle.slices.proofs.Impossible.{impossible}
 use Rattle.session.specs.Counters.{ofOurs}
 use Rattle.session.specs.declared.counters.OFC.{OFC}
-use Rattle.conversation.specs.Ledger.{Fate, waiting, covered, dropped, Entry, onLine, ifWaiting, held, ifDropped, gone, became, droppedIf, dropAll, coveredIf, coverTo, cover}
+use Rattle.conversation.specs.Ledger.{Fate, waiting, covered, dropped, Entry, onLine, ifWaiting, held, ifDropped, gone, became, droppedIf, dropAll, coveredIf, coverTo}
 use Rattle.conversation.specs.Steps.{after}
-use Rattle.conversation.proofs.EntryLaws.{behind}
 
 -- strings of entries one behind the other
 held-append : (xs ys : List Entry) → held (xs ++ ys) ≡ held xs ++ held ys

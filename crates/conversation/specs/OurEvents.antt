@@ -9,7 +9,7 @@ use Rattle.ash.specs.Stuffing.{payloadMax, stuff}
 use Rattle.session.specs.declared.control.Kind.{Kind}
 use Rattle.session.specs.declared.control.Kind.the-variants.{Ack}
 use Rattle.conversation.specs.Ledger.{Ledger, Entry, handedOut, held, dropAll}
-use Rattle.conversation.specs.Events.{reset, send, Sent, Effect, refused, told}
+use Rattle.conversation.specs.Events.{Sent, Effect, refused, told}
 
 -- a refused event is no part of the conversation
 abbrev pub refusing : Ledger → ℕ → Effect

@@ -9,9 +9,9 @@ use Rattle.session.specs.Control.{controlOf}
 use Rattle.session.specs.declared.control.Kind.{Kind}
 use Rattle.session.specs.declared.control.Kind.the-variants.{Reset, ResetAck, Ack, Nack}
 use Rattle.session.specs.declared.control.Control.{Control}
-use Rattle.conversation.specs.Ledger.{Ledger, Entry, onLine, held, cover}
+use Rattle.conversation.specs.Ledger.{Ledger, Entry, onLine, cover}
 use Rattle.conversation.specs.Events.{Sent, Effect, refused}
-use Rattle.conversation.specs.OurEvents.{saying, empty, again, repeats, restarting}
+use Rattle.conversation.specs.OurEvents.{saying, empty, repeats, restarting}
 
 abbrev pub ignoring : Ledger → Effect
 ignoring l = saying l [] [] []

@@ -31,9 +31,12 @@ done
 "${check[@]}" --trace-children=yes "$folder/serial" "$folder/display"
 tests/example/run.sh "$(checked display "$folder/display")" examples/captures/line.{capture,expected}
 "${check[@]}" "$folder/differential" 1
-ash() { awk '/^= /{on=($0=="= ash")} on' "crates/run_cases/$1"; }
-ash stdin | "${check[@]}" "$cases" | diff -u <(ash stdout) -
-echo "ash: the stored cases give their stored answers"
+# stored SUBJECT FILE: the lines of that subject, which the line behind it ends.
+stored() { awk -v subject="= $1" '/^= /{on=($0==subject)} on' "crates/run_cases/$2"; }
+for subject in ash session cutter; do
+    stored "$subject" stdin | "${check[@]}" "$cases" | diff -u <(stored "$subject" stdout) -
+    echo "$subject: the stored cases give their stored answers"
+done
 
 replay_checked=$(checked replay "$replay")
 tests/histories/run.sh "$replay_checked" examples/histories

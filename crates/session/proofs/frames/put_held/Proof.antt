@@ -35,7 +35,9 @@ add-result c =
     omega (arith, first, second)
 
 returns : tie.Need-returns
-returns c = rw (c .enum-told .given .1) (put-none (c .before .before .before .before .before .before .args .output .now) 0)
+returns c =
+    let fields = c .before .before in
+    rw (c .enum-told .given .1) (put-none (fields .before .before .before .before .args .output .now) 0)
 
 same-length : tie.Need-same-length
 same-length c = search needs

@@ -41,7 +41,8 @@ returns c =
     let holds = c .before in
     let filled = holds .before in
     let told = filled .before in
-    let a = told .before .before .before .before .before .before .args in
+    let fields = told .before .before in
+    let a = fields .before .before .before .before .args in
     let held = holds .with-held .ensures ∙ ap (λ (p : Payload). withHeld (a .session) (One (a .number)) p (a .session .newer)) (filled .payload-of .ensures) in
     c .with-counters .ensures
     ∙ ap (λ (s : Session). withCounters s (a .number) (a .session .good) (a .session .awaiting)) held
@@ -52,7 +53,8 @@ returns-2 c =
     let holds = c .before in
     let filled = holds .before in
     let told = filled .before .before in
-    let a = told .before .before .before .before .before .before .args in
+    let fields = told .before .before in
+    let a = fields .before .before .before .before .args in
     let both = Two (told .held .given .0 .0) (a .number) in
     let held = holds .with-held2 .ensures ∙ ap (λ (p : Payload). withHeld (a .session) both (a .session .older) p) (filled .payload-of2 .ensures) in
     c .with-counters2 .ensures

@@ -13,6 +13,7 @@ use Rattle.ash.specs.Stuffing.{payloadMax, stuff, unstuffFrom}
 use Rattle.ash.specs.Header.{headerOf, sentHeader, goodHeader}
 use Rattle.ash.specs.Check.{spread, checkOver}
 use Rattle.slices.specs.Written.{written, fitted}
+use Rattle.ash.specs.KnownFrames.{resetFrame, resetAckFrame}
 use Rattle.ash.specs.Writing.{frameOf, writeFrame}
 use Rattle.ash.specs.Reading.{frame, readByLength, readByHeader, readFrame}
 use Rattle.ash.specs.declared.reader.FrameRead.{FrameRead}
@@ -23,18 +24,11 @@ use Rattle.ash.proofs.FrameTheorems.{written-read-back}
 use Rattle.ash.proofs.Calls.{Writes, Reads}
 use Rattle.ash.proofs.FrameCalls.{call-reads, call-writes}
 
--- 02, C-11: RESET has type 0, OFC 1 and AFC 0; RESET ACK has type 1, OFC 1 and AFC 1
-abbrev reset : List ℕ
-reset = 0x7e ∷ 0x00 ∷ 0x08 ∷ 0x00 ∷ 0x69 ∷ 0x86 ∷ 0x00 ∷ []
-
-abbrev resetAcknowledgement : List ℕ
-resetAcknowledgement = 0x7e ∷ 0x00 ∷ 0x49 ∷ 0x00 ∷ 0x47 ∷ 0x6b ∷ 0xc0 ∷ []
-
-pub known-written : (writeFrame 7 0x08 [] ≡ written reset) × (writeFrame 7 0x49 [] ≡ written resetAcknowledgement)
+pub known-written : (writeFrame 7 0x08 [] ≡ written resetFrame) × (writeFrame 7 0x49 [] ≡ written resetAckFrame)
 unfolding writeFrame fitted frameOf sentHeader headerOf checkOver spread crcOf addByte shiftBits shiftBit reserved each
 known-written = (refl, refl)
 
-pub known-read : (readFrame 57 reset ≡ frame 0x08 []) × (readFrame 57 resetAcknowledgement ≡ frame 0x49 [])
+pub known-read : (readFrame 57 resetFrame ≡ frame 0x08 []) × (readFrame 57 resetAckFrame ≡ frame 0x49 [])
 unfolding readFrame readByHeader readByLength goodHeader unstuffFrom sameBytes headerOf checkOver spread crcOf addByte shiftBits shiftBit reserved each
 known-read = (refl, refl)
 
@@ -56,8 +50,8 @@ known control bytes size e =
     }
 
 -- THEOREM. Calls send RESET and RESET ACK as these bytes, and read them back.
-pub known-calls : Known 0x08 reset × Known 0x49 resetAcknowledgement
-known-calls = (known 0x08 reset refl (known-written .0), known 0x49 resetAcknowledgement refl (known-written .1))
+pub known-calls : Known 0x08 resetFrame × Known 0x49 resetAckFrame
+known-calls = (known 0x08 resetFrame refl (known-written .0), known 0x49 resetAckFrame refl (known-written .1))
 
 -- 002, 3.10: the examples, and a byte that is not special within a frame
 stuffing-examples : stuff (0x7e ∷ 0x11 ∷ 0x13 ∷ 0x7d ∷ 0xf8 ∷ 0xff ∷ [])

@@ -11,8 +11,8 @@ use Rattle.refusals.specs.Numbers.{badHeader}
 use Rattle.slices.proofs.Impossible.{impossible}
 use Rattle.ash.specs.Reserved.{unescaped}
 use Rattle.ash.specs.Stuffing.{payloadMax}
-use Rattle.ash.specs.Header.{controlEscaped, lengthEscaped, goodHeader}
-use Rattle.ash.specs.Size.{frameSize}
+use Rattle.ash.specs.Header.{frameMin, controlEscaped, lengthEscaped, goodHeader}
+use Rattle.ash.specs.Size.{frameMax, frameSize}
 use Rattle.ash.specs.Reading.{frame, refused, readByLength, readByHeader, readFrame}
 use Rattle.ash.specs.declared.size.Size.the-variants.{Bytes, Bad}
 use Rattle.ash.proofs.TakenLaws.{sized-frame, opened}
@@ -29,25 +29,25 @@ module _ (escape control size : ℕ) where
   unfolding frameSize
   length-over e h = rw (e, lt-leb meant payloadMax h)
 
-  pub good-size : goodHeader escape control size ≡ true → meant ≤ payloadMax → frameSize escape control size ≡ Bytes (meant + 7)
+  pub good-size : goodHeader escape control size ≡ true → meant ≤ payloadMax → frameSize escape control size ≡ Bytes (meant + frameMin)
   unfolding frameSize
   good-size e h = rw (e, le-leb meant payloadMax h)
 
 -- a frame has 7 to 64 bytes
 pub record Sizes (n : ℕ) : Type 0 where
-  pub least : 7 ≤ n
-  pub most : n ≤ 64
+  pub least : frameMin ≤ n
+  pub most : n ≤ frameMax
 
 pub size-bounds : (escape control size n : ℕ) → frameSize escape control size ≡ Bytes n → Sizes n
 unfolding frameSize
 size-bounds escape control size n = by-tests (goodHeader escape control size) (leb (meant escape control size) payloadMax) refl
   where
     by-tests : (t u : Bool) → leb (meant escape control size) payloadMax ≡ u
-        → cond t (cond u (Bytes (meant escape control size + 7)) Bad) Bad ≡ Bytes n → Sizes n
+        → cond t (cond u (Bytes (meant escape control size + frameMin)) Bad) Bad ≡ Bytes n → Sizes n
     by-tests false u small e = impossible cc
     by-tests true false small e = impossible cc
     by-tests true true small e =
-        let is : meant escape control size + 7 ≡ n = cc in
+        let is : meant escape control size + frameMin ≡ n = cc in
         let most = leb-true (meant escape control size) payloadMax small in
         record { least = omega arith; most = omega arith }
 

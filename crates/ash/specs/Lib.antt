@@ -7,3 +7,4 @@ pub mod Writing
 pub mod Reading
 pub mod Answers
 pub mod ReaderSteps
+pub mod KnownFrames

@@ -14,6 +14,7 @@ use Rattle.ash.specs.Stuffing.{payloadMax, unstuffFrom}
 use Rattle.ash.specs.Header.{headerOf, sentHeader, goodHeader}
 use Rattle.ash.specs.Check.{spread, checkOver}
 use Rattle.ash.specs.Writing.{frameOf, writeFrame}
+use Rattle.ash.specs.KnownFrames.{resetFrame, resetAckFrame}
 use Rattle.ash.specs.Reading.{readByLength, readByHeader, readFrame}
 use Rattle.session.specs.Counters.{ofOurs, ofPeers}
 use Rattle.session.specs.Control.{controlByte, controlOf}
@@ -41,13 +42,6 @@ pub known-control-bytes : KnownControl Reset 1 0 0x08 × KnownControl ResetAck 1
 unfolding controlByte controlOf
 known-control-bytes =
     (record { sent = refl; read = refl }, record { sent = refl; read = refl }, record { sent = refl; read = refl }, record { sent = refl; read = refl })
-
--- 02, C-11
-abbrev pub resetFrame : List ℕ
-resetFrame = 0x7e ∷ 0x00 ∷ 0x08 ∷ 0x00 ∷ 0x69 ∷ 0x86 ∷ 0x00 ∷ []
-
-abbrev pub resetAckFrame : List ℕ
-resetAckFrame = 0x7e ∷ 0x00 ∷ 0x49 ∷ 0x00 ∷ 0x47 ∷ 0x6b ∷ 0xc0 ∷ []
 
 -- NACK 1/0 by 002, 3.8 to 3.11: the check of 7e 00 c8 00 is 7fd2, which is spread to 6f c2 c0
 abbrev pub nackFrame : List ℕ

@@ -9,6 +9,7 @@ use native.Mathlib.Omega.{arith}
 use lib.Dec.{ltb}
 use lib.ListN.{length, getD, length-append}
 use borrow.Author.Tests.{eqb-true, ltb-false, lt-ltb, le-ltb}
+use Rattle.ash.specs.Header.{frameMin}
 use Rattle.ash.specs.Reserved.{flagByte, reserved}
 use Rattle.ash.specs.Writing.{frameOf}
 use Rattle.ash.specs.Reading as reading
@@ -35,7 +36,7 @@ abbrev NoFlag : List ℕ → Type 0
 NoFlag bytes = (i : ℕ) → getD bytes i 0 ≡ flagByte → ⊥
 
 -- a frame whose header says its length
-module _ (frame : List ℕ) (long : 7 ≤ length frame) (size : sizeIn frame ≡ Bytes (length frame)) where
+module _ (frame : List ℕ) (long : frameMin ≤ length frame) (size : sizeIn frame ≡ Bytes (length frame)) where
   whole : joinedStep frame ≡ hands-on frame between
   unfolding joinedStep
   whole =

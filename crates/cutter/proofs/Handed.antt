@@ -6,6 +6,7 @@ use mathlib.Core.Logic.{_⊎_}
 use Prim.Native.Nat.{ℕ, _≤_, _<_}
 use native.Mathlib.Omega.{arith}
 use lib.ListN.{length, getD, List·getD-append}
+use Rattle.ash.specs.Header.{frameMin}
 use Rattle.ash.specs.Size.{frameSize}
 use Rattle.ash.specs.Reading as reading
 use Rattle.ash.specs.Reading.{Read, flagFirst, readFrame}
@@ -49,7 +50,7 @@ refused-unless room bytes untaken = by-result (readFrame room bytes) refl
     by-result (reading.refused n) e = record { number = n; is = e }
 
 -- fewer than seven bytes, a bad header, and fewer bytes than the header says
-pub short-refused : (bytes : List ℕ) → length bytes < 7 → (room : ℕ) → Refusal room bytes
+pub short-refused : (bytes : List ℕ) → length bytes < frameMin → (room : ℕ) → Refusal room bytes
 short-refused bytes few room = refused-unless room bytes (λ control p e. omega (arith, opened room bytes control p e .long))
 
 pub other-size : (bytes : List ℕ) (size : Size) → sizeIn bytes ≡ size → (size ≡ Bytes (length bytes) → ⊥) → (room : ℕ) → Refusal room bytes

@@ -4,34 +4,29 @@ use mathlib.Core.List.{List, [], _∷_, _++_}
 use Prim.Native.Nat.{ℕ}
 use lib.ListN.{replicate}
 use Rattle.ash.specs.Reserved.{reserved}
+use Rattle.ash.specs.KnownFrames.{resetFrame, resetAckFrame}
 use Rattle.ash.specs.Header.{goodHeader}
 use Rattle.ash.specs.Size.{frameSize}
 use Rattle.cutter.specs.Cutting.{joinedStep, stepOf, framesFrom, framesOf}
 
-abbrev reset : List ℕ
-reset = 0x7e ∷ 0x00 ∷ 0x08 ∷ 0x00 ∷ 0x69 ∷ 0x86 ∷ 0x00 ∷ []
-
-abbrev resetAck : List ℕ
-resetAck = 0x7e ∷ 0x00 ∷ 0x49 ∷ 0x00 ∷ 0x47 ∷ 0x6b ∷ 0xc0 ∷ []
-
 -- wake bytes before, between and behind frames
-among-wakes : framesOf (0xff ∷ 0xff ∷ [] ++ reset ++ (0xff ∷ []) ++ resetAck ++ (0xff ∷ [])) ≡ reset ∷ resetAck ∷ []
+pub among-wakes : framesOf (0xff ∷ 0xff ∷ [] ++ resetFrame ++ (0xff ∷ []) ++ resetAckFrame ++ (0xff ∷ [])) ≡ resetFrame ∷ resetAckFrame ∷ []
 unfolding framesFrom stepOf joinedStep frameSize goodHeader reserved
 among-wakes = refl
 
 -- a frame that is cut short by the next flag, and one that never ends
-cut-short : framesOf (0x7e ∷ 0x00 ∷ 0x08 ∷ [] ++ reset ++ (0x7e ∷ 0x00 ∷ [])) ≡ (0x7e ∷ 0x00 ∷ 0x08 ∷ []) ∷ reset ∷ []
+pub cut-short : framesOf (0x7e ∷ 0x00 ∷ 0x08 ∷ [] ++ resetFrame ++ (0x7e ∷ 0x00 ∷ [])) ≡ (0x7e ∷ 0x00 ∷ 0x08 ∷ []) ∷ resetFrame ∷ []
 unfolding framesFrom stepOf joinedStep frameSize goodHeader reserved
 cut-short = refl
 
 -- stray bytes between frames are one fault, ff behind the first of them too
-stray-bytes : framesOf (0x01 ∷ 0xff ∷ 0x02 ∷ [] ++ reset) ≡ (0x01 ∷ []) ∷ reset ∷ []
+pub stray-bytes : framesOf (0x01 ∷ 0xff ∷ 0x02 ∷ [] ++ resetFrame) ≡ (0x01 ∷ []) ∷ resetFrame ∷ []
 unfolding framesFrom stepOf joinedStep frameSize goodHeader reserved
 stray-bytes = refl
 
 -- reserved header escape bits, and a length of 58
-bad-headers : framesOf (0x7e ∷ 0x01 ∷ 0x08 ∷ 0x00 ∷ 0x69 ∷ [] ++ (0x7e ∷ 0x00 ∷ 0x08 ∷ 0x3a ∷ 0x69 ∷ []) ++ reset)
-    ≡ (0x7e ∷ 0x01 ∷ 0x08 ∷ 0x00 ∷ []) ∷ (0x7e ∷ 0x00 ∷ 0x08 ∷ 0x3a ∷ []) ∷ reset ∷ []
+pub bad-headers : framesOf (0x7e ∷ 0x01 ∷ 0x08 ∷ 0x00 ∷ 0x69 ∷ [] ++ (0x7e ∷ 0x00 ∷ 0x08 ∷ 0x3a ∷ 0x69 ∷ []) ++ resetFrame)
+    ≡ (0x7e ∷ 0x01 ∷ 0x08 ∷ 0x00 ∷ []) ∷ (0x7e ∷ 0x00 ∷ 0x08 ∷ 0x3a ∷ []) ∷ resetFrame ∷ []
 unfolding framesFrom stepOf joinedStep frameSize goodHeader reserved
 bad-headers = refl
 
@@ -39,6 +34,6 @@ bad-headers = refl
 abbrev escapedLength : List ℕ
 escapedLength = 0x7e ∷ 0x40 ∷ 0x88 ∷ 0x31 ∷ [] ++ replicate 20 0xff
 
-escaped-length : framesOf (escapedLength ++ (0xff ∷ []) ++ reset) ≡ escapedLength ∷ reset ∷ []
+escaped-length : framesOf (escapedLength ++ (0xff ∷ []) ++ resetFrame) ≡ escapedLength ∷ resetFrame ∷ []
 unfolding framesFrom stepOf joinedStep frameSize goodHeader reserved
 escaped-length = refl

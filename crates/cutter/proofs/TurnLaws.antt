@@ -26,7 +26,7 @@ module _ (place : Place) (b : ℕ) where
   step-other n = rw (ne-eqb b flagByte n)
 
 -- a byte that is stored first is the only one held
-stored-first : (array : List ℕ) (b : ℕ) → length array ≡ 64 → take 1 (set array 0 b) ≡ b ∷ []
+stored-first : (array : List ℕ) (b : ℕ) → length array ≡ frameMax → take 1 (set array 0 b) ≡ b ∷ []
 stored-first array b whole = take-suc-set array 0 b (omega arith)
 
 -- the bytes that are no flag, by what is passed over

@@ -1,5 +1,5 @@
 -- 02, C-21: a call of the cutter takes a piece of the line, with a buffer for a frame lent beside it.
-use Prim.Native.Nat.{ℕ, suc, min}
+use Prim.Native.Nat.{ℕ, suc, _-_, min}
 use mathlib.Core.Path.{_≡_}
 use mathlib.Core.Bool.{cond}
 use mathlib.Core.List.{List, [], _∷_}
@@ -18,7 +18,7 @@ use Rattle.cutter.specs.declared.state.Cut.{Cut}
 
 -- a frame under way has at most one byte less than the longest
 abbrev pub heldMax : ℕ
-heldMax = 63
+heldMax = frameMax - 1
 
 -- how a state stands for a place: in a frame its first bytes are those that have come
 abbrev pub placeOf : kinds.Place → List ℕ → Place
@@ -26,7 +26,7 @@ placeOf Between bytes = between
 placeOf Inside bytes = inside bytes
 placeOf Passing bytes = passing
 
--- a state's length is taken as at most 63, whoever made it
+-- a state's length is taken as at most so many, whoever made it
 abbrev pub placeIn : Cutter → Place
 placeIn cutter = placeOf (cutter .place) (take (min (cutter .length) heldMax) (cutter .bytes))
 

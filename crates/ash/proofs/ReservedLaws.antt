@@ -1,14 +1,12 @@
 -- What holds of the five reserved bytes holds of each byte that is reserved; so none of them is reserved with bit 5 flipped.
 use mathlib.Core.Path.{_≡_, refl}
 use mathlib.Core.Bool.{Bool, true, false, _||_}
-use Prim.Native.Nat.{ℕ, zero, suc, _+_, _*_, _/_, _%_, _<_}
-use native.Mathlib.Nat.{div-add-mod'}
+use Prim.Native.Nat.{ℕ, _/_, _%_}
 use native.Mathlib.Omega.{arith}
-use lib.Arith.{bin-ind}
-use lib.Bits.{bitXor, differ, xor-step, xor-self}
 use lib.Dec.{eqb}
 use borrow.Author.Tests.{eqb-true, ne-eqb}
 use Rattle.slices.proofs.Impossible.{impossible}
+use Rattle.slices.proofs.XorLaws.{xor-twice}
 use Rattle.ash.specs.Reserved.{reserved, flipped}
 
 pub reserved-five : (P : ℕ → Type 0) → P 0x7e → P 0x7d → P 0x11 → P 0x13 → P 0xf8 → (b : ℕ) → reserved b ≡ true → P b
@@ -49,36 +47,6 @@ reserved-unless b h = cases (reserved b) refl
     cases false e =
         let unlike : (v : ℕ) → reserved v ≡ true → b ≡ v → ⊥ = λ v. unlike-reserved b v e in
         absurd (h (unlike 0x7e refl) (unlike 0x7d refl) (unlike 0x11 refl) (unlike 0x13 refl) (unlike 0xf8 refl))
-
--- two digits that differ or not are a digit, and with the second once more the first
-differ-digit : (x y : ℕ) → x < 2 → y < 2 → differ x y < 2
-differ-digit zero y h k = k
-differ-digit (suc zero) zero h k = h
-differ-digit (suc zero) (suc zero) h k = omega arith
-differ-digit (suc zero) (suc (suc y)) h k = absurd (omega arith)
-differ-digit (suc (suc x)) y h k = absurd (omega arith)
-
-differ-twice : (x y : ℕ) → x < 2 → y < 2 → differ (differ x y) y ≡ x
-differ-twice zero zero h k = refl
-differ-twice zero (suc zero) h k = refl
-differ-twice (suc zero) zero h k = refl
-differ-twice (suc zero) (suc zero) h k = refl
-differ-twice (suc (suc x)) y h k = absurd (omega arith)
-differ-twice zero (suc (suc y)) h k = absurd (omega arith)
-differ-twice (suc zero) (suc (suc y)) h k = absurd (omega arith)
-
--- exclusive-or with the same number twice, digit by digit
-xor-twice : (a b : ℕ) → bitXor (bitXor a b) b ≡ a
-xor-twice = bin-ind (λ (n : ℕ). (b : ℕ) → bitXor (bitXor n b) b ≡ n) (λ b. xor-self b) step
-  where
-    step : (n : ℕ) → ((b : ℕ) → bitXor (bitXor (n / 2) b) b ≡ n / 2) → (b : ℕ) → bitXor (bitXor n b) b ≡ n
-    step n rest b =
-        let high = bitXor (n / 2) (b / 2) in
-        let low = differ (n % 2) (b % 2) in
-        let digit : low < 2 = differ-digit (n % 2) (b % 2) (omega arith) (omega arith) in
-        let above : (high * 2 + low) / 2 ≡ high = omega arith in
-        let last : (high * 2 + low) % 2 ≡ low = omega arith in
-        rw (xor-step n b, xor-step (high * 2 + low) b, above, last, rest (b / 2), differ-twice (n % 2) (b % 2) (omega arith) (omega arith)) (div-add-mod' n 2)
 
 -- bit 5 flipped twice is as it was
 pub flipped-twice : (b : ℕ) → flipped (flipped b) ≡ b

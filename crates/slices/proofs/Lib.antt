@@ -8,3 +8,5 @@ pub mod PutLaws
 pub mod SameLaws
 pub mod TestLaws
 pub mod WrittenLaws
+pub mod XorLaws
+pub mod XorStrings

@@ -1,4 +1,5 @@
 pub mod Each
+pub mod ExclusiveOr
 pub mod HighFirst
 pub mod Put
 pub mod Same

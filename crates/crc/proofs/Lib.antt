@@ -1,1 +1,3 @@
+pub mod CheckCalls
 pub mod CrcLaws
+pub mod LinearLaws

@@ -4,7 +4,8 @@ ghost use mathlib.Core.Path.{_≡_};
 ghost use Rattle.crc.specs.Crc.{shiftBit, addByte, crcOf};
 
 // The CRC of `bytes` from the start value `start`. The CRC of two strings joined is that of the
-// second, started from the first's.
+// second, started from the first's; that of the exclusive-or of three strings of equal length is
+// the exclusive-or of theirs.
 pub fn check(start: u16, bytes: &[u8]) -> u16
     ensures { λ r. ⌜ r ≡ crcOf start (now (bytes .entry)) ⌝ }
 {

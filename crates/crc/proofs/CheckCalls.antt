@@ -1,0 +1,39 @@
+-- The two laws of 02, C-24, over calls of `crc::check`, by the contract that the toolchain reads off the source (`Learnt`): a contract that
+-- says less breaks them. They hold for each start value and for strings of any length, empty ones too.
+use mathlib.Core.Path.{_≡_, refl, sym, ap, ap₂, _∙_}
+use mathlib.Core.List.{List, _++_}
+use Prim.Native.Nat.{ℕ}
+use lib.Bits.{bitXor}
+use lib.ListN.{length}
+use Rattle.slices.specs.ExclusiveOr.{xorOf}
+use Rattle.slices.proofs.Lent.{InCall, in-call}
+use Rattle.crc.specs.Crc.{crcOf}
+use Rattle.crc.proofs.CrcLaws.{crc-append}
+use Rattle.crc.proofs.LinearLaws.{crc-three}
+use Rattle.crc.proofs.check.Reads as check
+
+-- a call of `crc::check`
+abbrev pub Checks : (start : ℕ) (bytes : List ℕ) (answer : ℕ) → Type 0
+Checks start = InCall check.Asked check.Learnt (λ bytes. (start, (bytes, tt)))
+
+-- what such a call answered, by the contract
+pub was-checked : {start : ℕ} {bytes : List ℕ} {answer : ℕ} → Checks start bytes answer → answer ≡ crcOf start bytes
+was-checked c = rw (c .input-lent .holds) at (c .learnt)
+
+-- THEOREM. The check of two strings joined is the second's, started from the first's check.
+pub joined : (start : ℕ) (xs ys : List ℕ) (first second both : ℕ) → Checks start xs first → Checks first ys second → Checks start (xs ++ ys) both
+    → both ≡ second
+joined start xs ys first second both of-first of-second of-both =
+    was-checked of-both ∙ crc-append start xs ys ∙ ap (λ (register : ℕ). crcOf register ys) (sym (was-checked of-first)) ∙ sym (was-checked of-second)
+
+-- THEOREM. The check of the bytewise exclusive-or of three strings of equal length is the exclusive-or of their checks.
+pub exclusive-or : (start : ℕ) (xs ys zs : List ℕ) (first second third all : ℕ) → length xs ≡ length ys → length ys ≡ length zs
+    → Checks start xs first → Checks start ys second → Checks start zs third → Checks start (xorOf (xorOf xs ys) zs) all
+    → all ≡ bitXor (bitXor first second) third
+exclusive-or start xs ys zs first second third all two three of-first of-second of-third of-all =
+    was-checked of-all ∙ crc-three start xs ys zs two three
+    ∙ sym (ap₂ bitXor (ap₂ bitXor (was-checked of-first) (was-checked of-second)) (was-checked of-third))
+
+-- There is such a call for each start value and all bytes, since the contract asks nothing.
+pub all-bytes-are-checked : (start : ℕ) (bytes : List ℕ) → Checks start bytes (crcOf start bytes)
+all-bytes-are-checked start bytes = in-call tt refl

@@ -137,7 +137,10 @@ static inline uint8_t *arznavik_output(uint8_t *bytes, size_t length)
 
 /* ---- Calls to use ---- */
 
-/* The check over the bytes: polynomial 1021, high bit first, nothing inverted. */
+/*
+ * The check over the bytes: polynomial 1021, high bit first, nothing inverted. Bytes that come in
+ * parts are checked part by part: the check of what came before is the next part's start.
+ */
 static inline uint16_t arznavik_crc_of(uint16_t start, const uint8_t *bytes, size_t length)
 {
     return arznavik_crc(start, arznavik_input(bytes, length), length);

@@ -1,13 +1,15 @@
 -- What C wrote by one call another reads back, by the contracts of the exported functions (`Learnt`): the reports carry what the frame writer
 -- and the whole-frame reader answer.
-use mathlib.Core.Path.{_≡_, refl, ap, _∙_}
+use mathlib.Core.Path.{_≡_, refl, sym, ap, _∙_, subst}
 use mathlib.Core.Bool.{Bool, true, false, cond}
 use mathlib.Core.List.{List, _++_}
 use Prim.Native.Nat.{ℕ, _≤_, _<_}
 use native.Mathlib.Omega.{arith}
+use lib.Bits.{bitXor}
 use lib.Dec.{ltb}
 use lib.ListN.{length, take}
 use Rattle.refusals.specs.Numbers.{shortOutput, longPayload}
+use Rattle.slices.specs.ExclusiveOr.{xorOf}
 use Rattle.slices.specs.Put.{putAt}
 use Rattle.slices.specs.Written as writing
 use Rattle.slices.specs.Written.{Output, fitted, writtenBytes}
@@ -15,6 +17,7 @@ use Rattle.slices.proofs.PutLaws.{put-told}
 use Rattle.slices.proofs.Lent.{InCall, InOutCall, in-call, in-out-call}
 use Rattle.crc.specs.Crc.{crcOf, checkBytes}
 use Rattle.crc.proofs.CrcLaws.{crc-checked}
+use Rattle.crc.proofs.CheckCalls as check
 use Rattle.frame.specs.Content.{payloadMax, frame}
 use Rattle.frame.specs.Writing.{frameOf, writeContent, writeFrame}
 use Rattle.frame.specs.Reading.{readFrame}
@@ -53,6 +56,24 @@ was-read r = rw (r .input-lent .holds, r .output-lent .holds, r .output-left .ho
 pub checked-is-zero : (start : ℕ) (bytes : List ℕ) (check answer : ℕ) → Checks start bytes check → Checks start (bytes ++ checkBytes check) answer → answer ≡ 0
 checked-is-zero start bytes check answer first second =
     was-checked second ∙ ap (λ (c : ℕ). crcOf start (bytes ++ checkBytes c)) (was-checked first) ∙ crc-checked start bytes
+
+-- what C is answered is what `crc::check` answers
+as-check : {start : ℕ} {bytes : List ℕ} {answer : ℕ} → Checks start bytes answer → check.Checks start bytes answer
+as-check {start} {bytes} c = subst (check.Checks start bytes) (sym (was-checked c)) (check.all-bytes-are-checked start bytes)
+
+-- THEOREM (02, C-24). For each start value the check of two strings joined is the second's, started from the first's check.
+pub joined : (start : ℕ) (xs ys : List ℕ) (first second both : ℕ) → Checks start xs first → Checks first ys second → Checks start (xs ++ ys) both
+    → both ≡ second
+joined start xs ys first second both of-first of-second of-both =
+    check.joined start xs ys first second both (as-check of-first) (as-check of-second) (as-check of-both)
+
+-- THEOREM (02, C-24). For each start value the check of the bytewise exclusive-or of three strings of equal length is the exclusive-or of
+-- their checks.
+pub exclusive-or : (start : ℕ) (xs ys zs : List ℕ) (first second third all : ℕ) → length xs ≡ length ys → length ys ≡ length zs
+    → Checks start xs first → Checks start ys second → Checks start zs third → Checks start (xorOf (xorOf xs ys) zs) all
+    → all ≡ bitXor (bitXor first second) third
+exclusive-or start xs ys zs first second third all two three of-first of-second of-third of-all =
+    check.exclusive-or start xs ys zs first second third all two three (as-check of-first) (as-check of-second) (as-check of-third) (as-check of-all)
 
 -- what the writer does, by its two tests
 abbrev outcome : ℕ → ℕ → List ℕ → Bool → Bool → Output

@@ -1,4 +1,4 @@
-/* The known answers of the frame rules, and the catalogue's values of the check. */
+/* The known answers of the frame rules, the catalogue's values of the check, and its two laws. */
 #include "arznavik.h"
 
 #include "calls.h"
@@ -62,10 +62,31 @@ static void checks(void)
                   arznavik_crc_of(arznavik_crc_of(start, digits, 4), digits + 4, 5), 0x29b1);
 }
 
+/* The check of the exclusive-or of three strings of equal length, and of no more than two. */
+static void exclusive_or(void)
+{
+    static const uint8_t strings[3][9] = {
+        {'1', '2', '3', '4', '5', '6', '7', '8', '9'},
+        {'t', 'o', 'm', 'a', 't', 'o', 'e', 's', '.'},
+        {0xff, 0x00, 0xff, 0x00, 0xff, 0x00, 0xff, 0x00, 0xff},
+    };
+    uint8_t two[9], three[9];
+    uint16_t start = ARZNAVIK_CRC_START;
+    for (size_t i = 0; i < 9; i++) {
+        two[i] = strings[0][i] ^ strings[1][i];
+        three[i] = two[i] ^ strings[2][i];
+    }
+    expect_number("tomatoes., start ffff", arznavik_crc_of(start, strings[1], 9), 0xc915);
+    expect_number("ff and 00 in turn", arznavik_crc_of(start, strings[2], 9), 0xba02);
+    expect_number("three strings", arznavik_crc_of(start, three, 9), 0x29b1 ^ 0xc915 ^ 0xba02);
+    expect_number("two strings", arznavik_crc_of(start, two, 9), 0xf8d6);
+}
+
 int main(void)
 {
     frames();
     data_frame();
     checks();
+    exclusive_or();
     return expect_summary("known answers");
 }

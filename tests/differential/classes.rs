@@ -12,6 +12,10 @@ pub enum Class {
     WrittenWithRoom,
     WriteRefused(Refusal),
     Crc,
+    Joined,
+    JoinedWithEmpty,
+    ThreeStrings,
+    ThreeEmptyStrings,
 }
 
 impl Class {
@@ -31,13 +35,17 @@ impl Class {
     }
 }
 
-const TAKEN: [Class; 6] = [
+const TAKEN: [Class; 10] = [
     Class::CheckedEmpty,
     Class::Checked,
     Class::CheckedLongest,
     Class::WrittenExactly,
     Class::WrittenWithRoom,
     Class::Crc,
+    Class::Joined,
+    Class::JoinedWithEmpty,
+    Class::ThreeStrings,
+    Class::ThreeEmptyStrings,
 ];
 
 const CHECK_REFUSALS: [Refusal; 6] = [

@@ -3,7 +3,7 @@
 use crate::archive;
 use crate::classes::Class;
 use crate::frame::{check, read_frame, write_frame, Frame, Refusal};
-use crate::inputs::{CheckInput, CrcInput, WriteInput};
+use crate::inputs::{CheckInput, CrcInput, JoinedInput, ThreeInput, WriteInput};
 
 /// Bytes on both sides of a lent output that must stay.
 const GUARD: usize = 16;
@@ -111,14 +111,58 @@ pub fn frame_write(input: &WriteInput) -> Result<Class, String> {
     Ok(class)
 }
 
-pub fn crc(input: &CrcInput) -> Result<Class, String> {
-    let got = archive::crc(input.start, &input.bytes);
-    let wanted = check(input.start, &input.bytes);
+/// The library's check, which is to be the reference's.
+fn checked(start: u16, bytes: &[u8]) -> Result<u16, String> {
+    let got = archive::crc(start, bytes);
+    let wanted = check(start, bytes);
     if got != wanted {
-        let (start, bytes) = (input.start, hex(&input.bytes));
+        let bytes = hex(bytes);
         return Err(format!(
             "start {start:04x}, bytes {bytes}: {got:04x}, wanted {wanted:04x}"
         ));
     }
+    Ok(got)
+}
+
+pub fn crc(input: &CrcInput) -> Result<Class, String> {
+    checked(input.start, &input.bytes)?;
     Ok(Class::Crc)
+}
+
+/// The check of two strings joined is the second's, started from the first's check.
+pub fn joined(input: &JoinedInput) -> Result<Class, String> {
+    let (first, second) = (&input.first, &input.second);
+    let both = checked(input.start, &[first.as_slice(), second].concat())?;
+    let in_parts = checked(checked(input.start, first)?, second)?;
+    if both != in_parts {
+        let (start, first, second) = (input.start, hex(first), hex(second));
+        return Err(format!(
+            "start {start:04x}, {first} and {second}: {both:04x} joined, {in_parts:04x} in parts"
+        ));
+    }
+    if first.is_empty() || second.is_empty() {
+        return Ok(Class::JoinedWithEmpty);
+    }
+    Ok(Class::Joined)
+}
+
+/// The check of the exclusive-or of three strings of equal length is that of their checks.
+pub fn three_strings(input: &ThreeInput) -> Result<Class, String> {
+    let [x, y, z] = &input.strings;
+    let bytes: Vec<u8> = (0..x.len()).map(|i| x[i] ^ y[i] ^ z[i]).collect();
+    let all = checked(input.start, &bytes)?;
+    let mut of_each = 0;
+    for string in &input.strings {
+        of_each ^= checked(input.start, string)?;
+    }
+    if all != of_each {
+        let (start, strings) = (input.start, input.strings.each_ref().map(|s| hex(s)));
+        return Err(format!(
+            "start {start:04x}, {strings:?}: {all:04x} of the whole, {of_each:04x} of each"
+        ));
+    }
+    if bytes.is_empty() {
+        return Ok(Class::ThreeEmptyStrings);
+    }
+    Ok(Class::ThreeStrings)
 }

@@ -22,6 +22,19 @@ pub struct CrcInput {
     pub bytes: Vec<u8>,
 }
 
+/// A string in two parts, one start value.
+pub struct JoinedInput {
+    pub start: u16,
+    pub first: Vec<u8>,
+    pub second: Vec<u8>,
+}
+
+/// Three strings of equal length, one start value.
+pub struct ThreeInput {
+    pub start: u16,
+    pub strings: [Vec<u8>; 3],
+}
+
 /// Payload lengths around each limit; 384 and 385 make content of 388 and 389 bytes.
 const LENGTHS: [usize; 12] = [0, 1, 2, 3, 14, 64, 381, 382, 383, 384, 385, 400];
 
@@ -187,11 +200,32 @@ pub fn write_input(random: &mut Random) -> WriteInput {
     }
 }
 
-pub fn crc_input(random: &mut Random) -> CrcInput {
+fn start(random: &mut Random) -> u16 {
     let any = random.next() as u16;
+    random.one_of(&[0xffff, 0x0000, any])
+}
+
+pub fn crc_input(random: &mut Random) -> CrcInput {
     let length = length(random);
     CrcInput {
-        start: random.one_of(&[0xffff, 0x0000, any]),
+        start: start(random),
         bytes: bytes(random, length),
+    }
+}
+
+pub fn joined_input(random: &mut Random) -> JoinedInput {
+    let lengths = [length(random), length(random)];
+    JoinedInput {
+        start: start(random),
+        first: bytes(random, lengths[0]),
+        second: bytes(random, lengths[1]),
+    }
+}
+
+pub fn three_input(random: &mut Random) -> ThreeInput {
+    let length = length(random);
+    ThreeInput {
+        start: start(random),
+        strings: std::array::from_fn(|_| bytes(random, length)),
     }
 }

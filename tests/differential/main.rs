@@ -24,6 +24,7 @@ use tally::Tally;
 const CHECKS: usize = 40_000;
 const WRITES: usize = 20_000;
 const CRCS: usize = 5_000;
+const LAWS: usize = 5_000;
 
 /// Failures that are printed before the run gives up.
 const FAILURES_SHOWN: usize = 5;
@@ -68,6 +69,12 @@ impl Run {
         });
         self.repeat(CRCS, &format!("seed {seed}, crc"), || {
             compare::crc(&inputs::crc_input(&mut random))
+        });
+        self.repeat(LAWS, &format!("seed {seed}, strings joined"), || {
+            compare::joined(&inputs::joined_input(&mut random))
+        });
+        self.repeat(LAWS, &format!("seed {seed}, three strings"), || {
+            compare::three_strings(&inputs::three_input(&mut random))
         });
     }
 

@@ -62,7 +62,7 @@ static void checks(void)
                   arznavik_crc_of(arznavik_crc_of(start, digits, 4), digits + 4, 5), 0x29b1);
 }
 
-/* The check of the exclusive-or of three strings of equal length, and of no more than two. */
+/* The check of the exclusive-or of three strings is that of their checks; of two it is not. */
 static void exclusive_or(void)
 {
     static const uint8_t strings[3][9] = {

@@ -1,4 +1,5 @@
-//! Inputs for the three calls: random, valid, damaged, and at each limit.
+//! Inputs for the three calls and the two laws of the check: random, valid, damaged, and at each
+//! limit.
 
 use crate::frame::{enclose, stuff, ESCAPE, FLAG};
 use crate::random::Random;
@@ -38,6 +39,8 @@ pub struct ThreeInput {
 /// Payload lengths around each limit; 384 and 385 make content of 388 and 389 bytes.
 const LENGTHS: [usize; 12] = [0, 1, 2, 3, 14, 64, 381, 382, 383, 384, 385, 400];
 
+const LONG_LENGTHS: [usize; 4] = [1_000, 4_096, 65_537, 100_000];
+
 /// Any bytes, bytes that matter to framing, or one byte throughout.
 fn bytes(random: &mut Random, length: usize) -> Vec<u8> {
     let alphabet: &[u8] = match random.below(6) {
@@ -59,6 +62,14 @@ fn length(random: &mut Random) -> usize {
         0 => random.below(20),
         1 => random.below(500),
         _ => random.one_of(&LENGTHS),
+    }
+}
+
+/// A string's length for a law of the check, which holds of any length.
+fn law_length(random: &mut Random) -> usize {
+    match random.below(200) {
+        0 => random.one_of(&LONG_LENGTHS),
+        _ => length(random),
     }
 }
 
@@ -214,7 +225,7 @@ pub fn crc_input(random: &mut Random) -> CrcInput {
 }
 
 pub fn joined_input(random: &mut Random) -> JoinedInput {
-    let lengths = [length(random), length(random)];
+    let lengths = [law_length(random), law_length(random)];
     JoinedInput {
         start: start(random),
         first: bytes(random, lengths[0]),
@@ -223,7 +234,7 @@ pub fn joined_input(random: &mut Random) -> JoinedInput {
 }
 
 pub fn three_input(random: &mut Random) -> ThreeInput {
-    let length = length(random);
+    let length = law_length(random);
     ThreeInput {
         start: start(random),
         strings: std::array::from_fn(|_| bytes(random, length)),

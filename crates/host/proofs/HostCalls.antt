@@ -1,5 +1,5 @@
 -- What C wrote by one call another reads back, by the contracts of the exported functions (`Learnt`): the reports carry what the frame writer
--- and the whole-frame reader answer.
+-- and the whole-frame reader answer. The check that C is answered has the laws of the check.
 use mathlib.Core.Path.{_≡_, refl, sym, ap, _∙_, subst}
 use mathlib.Core.Bool.{Bool, true, false, cond}
 use mathlib.Core.List.{List, _++_}

@@ -1,14 +1,14 @@
 -- The laws of the exclusive-or that `lib.Bits` does not have. They hold of all numbers, whatever their size, so what is built on them needs
 -- no bound.
 use mathlib.Core.Path.{_≡_, refl, sym, ap, ap₂, _∙_}
-use Prim.Native.Nat.{ℕ, zero, suc, _+_, _*_, _/_, _%_, _^_, _<_}
+use Prim.Native.Nat.{ℕ, zero, suc, _*_, _/_, _%_, _^_, _<_}
 use native.Mathlib.Nat.{add-zero}
 use native.Mathlib.Omega.{arith}
 use lib.Arith.{bin-ind, digits-mod}
 use lib.Bits.{bitXor, differ, xor-step, xor-shr, xor-comm, xor-block, xor-self, xor-zero-r}
 use lib.Pow.{pow-pos}
 
--- two binary digits that differ or not are a digit, and it does not matter which two of three are taken first
+-- the exclusive-or of two binary digits is a digit, and of three it does not matter which two are taken first
 differ-digit : (x y : ℕ) → x < 2 → y < 2 → differ x y < 2
 differ-digit zero y h k = k
 differ-digit (suc zero) zero h k = h
@@ -50,7 +50,7 @@ xor-swap a b c d =
     xor-assoc a b (bitXor c d) ∙ ap (bitXor a) (sym (xor-assoc b c d) ∙ ap (λ (x : ℕ). bitXor x d) (xor-comm b c) ∙ xor-assoc c b d)
     ∙ sym (xor-assoc a c (bitXor b d))
 
--- the same number twice is none
+-- a number that is added twice is gone
 pub xor-twice : (a b : ℕ) → bitXor (bitXor a b) b ≡ a
 xor-twice a b = xor-assoc a b b ∙ ap (bitXor a) (xor-self b) ∙ xor-zero-r a
 

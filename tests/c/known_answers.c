@@ -72,14 +72,15 @@ static void exclusive_or(void)
     };
     uint8_t two[9], three[9];
     uint16_t start = ARZNAVIK_CRC_START;
-    for (size_t i = 0; i < 9; i++) {
+    for (size_t i = 0; i < sizeof two; i++) {
         two[i] = strings[0][i] ^ strings[1][i];
         three[i] = two[i] ^ strings[2][i];
     }
-    expect_number("tomatoes., start ffff", arznavik_crc_of(start, strings[1], 9), 0xc915);
-    expect_number("ff and 00 in turn", arznavik_crc_of(start, strings[2], 9), 0xba02);
-    expect_number("three strings", arznavik_crc_of(start, three, 9), 0x29b1 ^ 0xc915 ^ 0xba02);
-    expect_number("two strings", arznavik_crc_of(start, two, 9), 0xf8d6);
+    expect_number("tomatoes., start ffff", arznavik_crc_of(start, strings[1], sizeof two), 0xc915);
+    expect_number("ff and 00 in turn", arznavik_crc_of(start, strings[2], sizeof two), 0xba02);
+    expect_number("three strings", arznavik_crc_of(start, three, sizeof three),
+                  0x29b1 ^ 0xc915 ^ 0xba02);
+    expect_number("two strings", arznavik_crc_of(start, two, sizeof two), 0xf8d6);
 }
 
 int main(void)

@@ -39,6 +39,7 @@ pub struct ThreeInput {
 /// Payload lengths around each limit; 384 and 385 make content of 388 and 389 bytes.
 const LENGTHS: [usize; 12] = [0, 1, 2, 3, 14, 64, 381, 382, 383, 384, 385, 400];
 
+/// Longer than any content, any field of a history, and 16 bits.
 const LONG_LENGTHS: [usize; 4] = [1_000, 4_096, 65_537, 100_000];
 
 /// Any bytes, bytes that matter to framing, or one byte throughout.

@@ -11,19 +11,19 @@ use lib.ListN.{length}
 use Rattle.slices.specs.ExclusiveOr.{xorOf}
 use Rattle.slices.proofs.XorLaws.{xor-swap, xor-shl}
 use Rattle.slices.proofs.XorStrings.{xor-length}
-use Rattle.crc.specs.Crc.{shiftBit, shiftBits, addByte, crcOf}
+use Rattle.crc.specs.Crc.{polynomial, shiftBit, shiftBits, addByte, crcOf}
 
 -- what is added is the polynomial times the bit that falls out
-times-bit : (shifted bit : ℕ) → bit < 2 → cond (eqb bit 1) (bitXor shifted 0x1021) shifted ≡ bitXor shifted (bit * 0x1021)
+times-bit : (shifted bit : ℕ) → bit < 2 → cond (eqb bit 1) (bitXor shifted polynomial) shifted ≡ bitXor shifted (bit * polynomial)
 times-bit shifted zero h = sym (xor-zero-r shifted)
 times-bit shifted (suc zero) h = refl
 times-bit shifted (suc (suc more)) h = absurd (omega arith)
 
-pub shift-sum : (r : ℕ) → shiftBit r ≡ bitXor (r % 0x8000 * 2) (r / 0x8000 % 2 * 0x1021)
+pub shift-sum : (r : ℕ) → shiftBit r ≡ bitXor (r % 0x8000 * 2) (r / 0x8000 % 2 * polynomial)
 unfolding shiftBit
 shift-sum r = times-bit (r % 0x8000 * 2) (r / 0x8000 % 2) (omega arith)
 
-bits-times : (x y : ℕ) → x < 2 → y < 2 → bitXor x y * 0x1021 ≡ bitXor (x * 0x1021) (y * 0x1021)
+bits-times : (x y : ℕ) → x < 2 → y < 2 → bitXor x y * polynomial ≡ bitXor (x * polynomial) (y * polynomial)
 bits-times zero y h k = refl
 bits-times (suc zero) zero h k = refl
 bits-times (suc zero) (suc zero) h k = refl
@@ -33,15 +33,15 @@ bits-times (suc (suc x)) y h k = absurd (omega arith)
 -- one bit: what stays and what falls out are each the exclusive-or of the two registers' parts
 pub shift-xor : (q r : ℕ) → shiftBit (bitXor q r) ≡ bitXor (shiftBit q) (shiftBit r)
 shift-xor q r =
-    shift-sum (bitXor q r) ∙ ap₂ bitXor stays falls ∙ xor-swap (q % 0x8000 * 2) (r % 0x8000 * 2) (q / 0x8000 % 2 * 0x1021) (r / 0x8000 % 2 * 0x1021)
+    shift-sum (bitXor q r) ∙ ap₂ bitXor stays falls ∙ xor-swap (q % 0x8000 * 2) (r % 0x8000 * 2) (q / 0x8000 % 2 * polynomial) (r / 0x8000 % 2 * polynomial)
     ∙ sym (ap₂ bitXor (shift-sum q) (shift-sum r))
   where
     stays : bitXor q r % 0x8000 * 2 ≡ bitXor (q % 0x8000 * 2) (r % 0x8000 * 2)
     stays = ap (λ (x : ℕ). x * 2) (xor-mod q r 15) ∙ sym (xor-shl 1 (q % 0x8000) (r % 0x8000))
 
-    falls : bitXor q r / 0x8000 % 2 * 0x1021 ≡ bitXor (q / 0x8000 % 2 * 0x1021) (r / 0x8000 % 2 * 0x1021)
+    falls : bitXor q r / 0x8000 % 2 * polynomial ≡ bitXor (q / 0x8000 % 2 * polynomial) (r / 0x8000 % 2 * polynomial)
     falls =
-        ap (λ (x : ℕ). x % 2 * 0x1021) (xor-shr q r 15) ∙ ap (λ (x : ℕ). x * 0x1021) (xor-mod (q / 0x8000) (r / 0x8000) 1)
+        ap (λ (x : ℕ). x % 2 * polynomial) (xor-shr q r 15) ∙ ap (λ (x : ℕ). x * polynomial) (xor-mod (q / 0x8000) (r / 0x8000) 1)
         ∙ bits-times (q / 0x8000 % 2) (r / 0x8000 % 2) (omega arith) (omega arith)
 
 pub shifts-xor : (n q r : ℕ) → shiftBits n (bitXor q r) ≡ bitXor (shiftBits n q) (shiftBits n r)

@@ -11,9 +11,12 @@ use Rattle.slices.specs.HighFirst.{highFirst}
 abbrev pub linkStart : ℕ
 linkStart = 0xffff
 
+abbrev pub polynomial : ℕ
+polynomial = 0x1021
+
 -- one bit: the register moves up by a place; where a 1 falls out at the top, the polynomial is added
 unfoldable pub shiftBit : ℕ → ℕ
-shiftBit r = cond (eqb (r / 0x8000 % 2) 1) (bitXor (r % 0x8000 * 2) 0x1021) (r % 0x8000 * 2)
+shiftBit r = cond (eqb (r / 0x8000 % 2) 1) (bitXor (r % 0x8000 * 2) polynomial) (r % 0x8000 * 2)
 
 -- n bits, one after the other
 unfoldable pub shiftBits : ℕ → ℕ → ℕ

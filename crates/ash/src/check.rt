@@ -9,8 +9,9 @@ ghost use Rattle.ash.specs.Check.{bit4, withoutBit4, spread, checkOver};
 pub(crate) fn check_bytes(control: u8, length: u8, payload: &[u8]) -> [u8; 3]
     ensures { λ r. ⌜ r ≡ checkOver control length (now (payload .entry)) ⌝ }
 {
-    let header = [FLAG, header_escape(control, length), control, length];
-    spread_check(crc::check(crc::check(CHECK_START, &header), payload))
+    let opened = crc::check_pair(CHECK_START, FLAG, header_escape(control, length));
+    let begun = crc::check_pair(opened, control, length);
+    spread_check(crc::check(begun, payload))
 }
 
 // A check in three bytes, none of which has bit 4 set, as all reserved bytes have.

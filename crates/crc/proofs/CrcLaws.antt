@@ -6,6 +6,7 @@ use Prim.Native.Nat.{ℕ, zero, suc, _+_, _*_, _/_, _%_, _^_, _≤_, _<_}
 use native.Mathlib.Omega.{arith}
 use native.Mathlib.Nat.{mul-assoc, pow-succ', le-mul-of-pos-right, zero-add}
 use lib.Bits.{bitXor, xor-block, xor-self, xor-zero-r}
+use lib.ListN.{length, drop, drop-of-length-le}
 use lib.Pow.{pow-pos}
 use borrow.Author.Tests.{ne-eqb}
 use Rattle.crc.specs.Crc.{shiftBit, shiftBits, addByte, crcOf, checkBytes}
@@ -15,6 +16,11 @@ pub crc-append : (r : ℕ) (xs ys : List ℕ) → crcOf r (xs ++ ys) ≡ crcOf (
 unfolding crcOf
 crc-append r [] ys = refl
 crc-append r (b ∷ bs) ys = crc-append (addByte r b) bs ys
+
+-- nothing is left to add
+pub all-added : (r : ℕ) (s : List ℕ) (i : ℕ) → length s ≤ i → crcOf r (drop i s) ≡ r
+unfolding crcOf
+all-added r s i h = rw (drop-of-length-le s h)
 
 -- where no 1 falls out, a bit doubles the register
 shift-low : (x : ℕ) → x < 0x8000 → shiftBit x ≡ x * 2

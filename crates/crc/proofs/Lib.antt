@@ -1,3 +1,8 @@
 pub mod CheckCalls
 pub mod CrcLaws
+pub mod DivisionLaws
 pub mod LinearLaws
+pub mod PartLaws
+pub mod SingleBits
+pub mod TableLaws
+pub mod Values

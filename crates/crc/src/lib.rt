@@ -1,7 +1,16 @@
 // The check of document 01: the 16-bit CRC with polynomial 1021 hex, high bit first, nothing
-// inverted, over any start value.
+// inverted, over any start value. Eight, four or two bytes are added at once, and the byte that this
+// leaves by a table.
+mod division;
+mod table;
+
+use crate::division::add_eight;
+use crate::division::add_four;
+use crate::division::remainder;
+use crate::table::check_by_table;
 ghost use mathlib.Core.Path.{_≡_};
-ghost use Rattle.crc.specs.Crc.{shiftBit, addByte, crcOf};
+ghost use mathlib.Core.List.{[], _∷_};
+ghost use Rattle.crc.specs.Crc.{crcOf};
 
 // The CRC of `bytes` from the start value `start`. The CRC of two strings joined is that of the
 // second, started from the first's; that of the exclusive-or of three strings of equal length is
@@ -10,36 +19,50 @@ pub fn check(start: u16, bytes: &[u8]) -> u16
     ensures { λ r. ⌜ r ≡ crcOf start (now (bytes .entry)) ⌝ }
 {
     let mut register = start;
-    let mut i: usize = 0;
-    while i < bytes.len() {
-        register = add_byte(register, bytes[i]);
-        i += 1;
+    let mut at: usize = 0;
+    while 8 <= bytes.len() - at {
+        register = add_eight(register, bytes, at);
+        at += 8;
     }
-    register
+    check_by_four(register, &bytes[at..])
 }
 
-// The register after one byte more.
-fn add_byte(register: u16, byte: u8) -> u16
-    ensures { λ r. ⌜ r ≡ addByte register byte ⌝ }
+// The same, the first four bytes at once.
+fn check_by_four(start: u16, bytes: &[u8]) -> u16
+    ensures { λ r. ⌜ r ≡ crcOf start (now (bytes .entry)) ⌝ }
 {
-    let high = (byte as u16) * 0x100;
-    let mut next = register ^ high;
-    let mut bit: usize = 0;
-    while bit < 8 {
-        next = shift_bit(next);
-        bit += 1;
+    if bytes.len() < 4 {
+        return check_by_two(start, bytes);
     }
-    next
+    let register = add_four(start, bytes, 0);
+    check_by_two(register, &bytes[4..])
 }
 
-// The register after one bit more.
-fn shift_bit(register: u16) -> u16
-    ensures { λ r. ⌜ r ≡ shiftBit register ⌝ }
+// The same, the first two bytes at once.
+fn check_by_two(start: u16, bytes: &[u8]) -> u16
+    ensures { λ r. ⌜ r ≡ crcOf start (now (bytes .entry)) ⌝ }
 {
-    let shifted = register % 0x8000 * 2;
-    if register < 0x8000 {
-        shifted
-    } else {
-        shifted ^ 0x1021
+    if bytes.len() < 2 {
+        return check_rest(start, bytes);
     }
+    let register = check_pair(start, bytes[0], bytes[1]);
+    check_rest(register, &bytes[2..])
+}
+
+// The same by the table, which is not copied where there is no byte.
+fn check_rest(start: u16, bytes: &[u8]) -> u16
+    ensures { λ r. ⌜ r ≡ crcOf start (now (bytes .entry)) ⌝ }
+{
+    if bytes.len() == 0 {
+        return start;
+    }
+    check_by_table(start, bytes)
+}
+
+// The CRC of two bytes, as they stand before a payload.
+pub fn check_pair(start: u16, first: u8, second: u8) -> u16
+    ensures { λ r. ⌜ r ≡ crcOf start (first ∷ second ∷ []) ⌝ }
+{
+    let word = start ^ slices::pair(first, second);
+    remainder(word as u64)
 }

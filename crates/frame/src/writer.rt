@@ -25,8 +25,8 @@ pub fn write_frame(kind: u8, sequence: u8, payload: &[u8], out: &mut [u8]) -> Wr
     if PAYLOAD_MAX < payload.len() {
         return Written::Refused(LONG_PAYLOAD);
     }
+    let check = crc::check(crc::check_pair(CHECK_START, kind, sequence), payload);
     let head = [kind, sequence];
-    let check = crc::check(crc::check(CHECK_START, &head), payload);
     let tail = [(check / 0x100) as u8, (check % 0x100) as u8];
     put_frame(&head, payload, &tail, out)
 }

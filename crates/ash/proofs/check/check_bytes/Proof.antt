@@ -7,14 +7,14 @@ use Rattle.ash.proofs.check.check_bytes.Tie as tie
 header-escape-requires : tie.Need-header-escape-requires
 header-escape-requires c κs = search needs
 
-slice-aggregate-check : tie.Need-slice-aggregate-check
-slice-aggregate-check c = search needs
+check-pair-requires : tie.Need-check-pair-requires
+check-pair-requires c κs = search needs
+
+check-pair-requires-2 : tie.Need-check-pair-requires-2
+check-pair-requires-2 c κs = search needs
 
 check-requires : tie.Need-check-requires
 check-requires c κs = search needs
-
-check-requires-2 : tie.Need-check-requires-2
-check-requires-2 c κs = search needs
 
 spread-check-requires : tie.Need-spread-check-requires
 spread-check-requires c κs = search needs
@@ -22,12 +22,14 @@ spread-check-requires c κs = search needs
 returns : tie.Need-returns
 returns c =
     let begun = c .before .before in
-    let escape = begun .before .before in
+    let opened = begun .before in
+    let escape = opened .before in
     let a = escape .before .before .args in
-    check-over (a .control) (a .length) (a .payload .now) _ _ _ _
+    check-over (a .control) (a .length) (a .payload .now) _ _ _ _ _
     (escape .header-escape .ensures)
-    (begun .check .ensures)
-    (c .before .check2 .ensures)
+    (opened .check-pair .ensures)
+    (begun .check-pair2 .ensures)
+    (c .before .check .ensures)
     (c .spread-check .ensures)
 
 pub check-bytes-spec : {M : Type 1} → statement M
@@ -35,8 +37,8 @@ check-bytes-spec =
     tie.close
     (tie.spec
     header-escape-requires
-    slice-aggregate-check
+    check-pair-requires
+    check-pair-requires-2
     check-requires
-    check-requires-2
     spread-check-requires
     returns)

@@ -12,20 +12,17 @@ returns c =
     let a = c .before .before .before .args in
     refuses _ 8 (a .out .now) (payload-too-long (length (a .out .now)) (a .kind) (a .sequence) (a .payload .now) (c .if1 .taken))
 
-slice-aggregate-check : tie.Need-slice-aggregate-check
-slice-aggregate-check c = search needs
+check-pair-requires : tie.Need-check-pair-requires
+check-pair-requires c κs = search needs
 
 check-requires : tie.Need-check-requires
 check-requires c κs = search needs
 
-check-requires-2 : tie.Need-check-requires-2
-check-requires-2 c κs = search needs
+cast-t11 : tie.Need-cast-t11
+cast-t11 c = search needs
 
 cast-t13 : tie.Need-cast-t13
 cast-t13 c = search needs
-
-cast-t15 : tie.Need-cast-t15
-cast-t15 c = search needs
 
 slice-aggregate-put-frame : tie.Need-slice-aggregate-put-frame
 slice-aggregate-put-frame c = search needs
@@ -44,21 +41,20 @@ returns-2 c =
     let put = c .before .before in
     let second = put .before .before .before .before in
     let first = second .before in
-    let allowed = first .before .before in
+    let allowed = first .before in
     let a = allowed .before .before .before .args in
     rw (payload-allowed (length (a .out .now)) (a .kind) (a .sequence) (a .payload .now) (allowed .if1 .left), content-parts (a .kind) (a .sequence) (a .payload .now))
-    (rw (second .check2 .ensures, first .check .ensures) at (put .put-frame .ensures))
+    (rw (second .check .ensures, first .check-pair .ensures) at (put .put-frame .ensures))
 
 pub write-frame-spec : {M : Type 1} → statement M
 write-frame-spec =
     tie.close
     (tie.spec
     returns
-    slice-aggregate-check
+    check-pair-requires
     check-requires
-    check-requires-2
+    cast-t11
     cast-t13
-    cast-t15
     slice-aggregate-put-frame
     slice-aggregate-put-frame-2
     put-frame-requires

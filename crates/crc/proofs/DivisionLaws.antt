@@ -1,0 +1,89 @@
+-- Eight, four or two bytes added to the register at once. Both what the code does and the check are linear (02, C-24), so they are tried on each
+-- single bit of the register and of the bytes.
+use mathlib.Core.Path.{_≡_, refl, sym, ap, _∙_}
+use mathlib.Core.List.{List, [], _∷_}
+use Prim.Native.Nat.{ℕ, _*_, _/_, _%_, _^_, _<_}
+use native.Mathlib.Omega.{arith}
+use lib.Bits.{bitXor}
+use lib.ListN.{length}
+use Rattle.slices.specs.HighFirst.{highFirst}
+use Rattle.slices.proofs.HighFirstLaws.{high-length}
+use Rattle.slices.proofs.XorStrings.{high-xor}
+use Rattle.crc.specs.Crc.{shiftBit, shiftBits, addByte, crcOf}
+use Rattle.crc.proofs.LinearLaws.{crc-xor}
+use Rattle.crc.proofs.SingleBits.{Linear, Linear₂, linear-added, linear-down, linear-low, linear-self, linear-sum, linear-then, linear-up, bits-enough, agree}
+
+-- the check of a number's bytes, in the register and the number
+abbrev pub checked : ℕ → ℕ → ℕ → ℕ
+checked count r w = crcOf r (highFirst count w)
+
+checked-linear : (count : ℕ) → Linear₂ (checked count)
+checked-linear count q r a b =
+    ap (crcOf (bitXor q r)) (high-xor count a b)
+    ∙ crc-xor q r (highFirst count a) (highFirst count b) (high-length count a ∙ sym (high-length count b))
+
+-- what the code does to a word: u moves down by 4, 11 and 16 places, its square by twice, its fourth power by four times and its eighth by eight
+-- times as many, as far as a word has them; the quotient is multiplied with the polynomial, and the low 16 bits stay
+abbrev once : ℕ → ℕ
+once x = bitXor (bitXor (bitXor x (x / 2 ^ 4)) (x / 2 ^ 11)) (x / 2 ^ 16)
+
+abbrev twice : ℕ → ℕ
+twice x = bitXor (bitXor (bitXor x (x / 2 ^ 8)) (x / 2 ^ 22)) (x / 2 ^ 32)
+
+abbrev fourTimes : ℕ → ℕ
+fourTimes x = bitXor (bitXor x (x / 2 ^ 16)) (x / 2 ^ 44)
+
+abbrev eightTimes : ℕ → ℕ
+eightTimes x = bitXor x (x / 2 ^ 32)
+
+abbrev timesPolynomial : ℕ → ℕ
+timesPolynomial x = bitXor (bitXor x (x * 2 ^ 5)) (x * 2 ^ 12)
+
+abbrev pub remainderOf : ℕ → ℕ
+remainderOf w = timesPolynomial (eightTimes (fourTimes (twice (once w))) % 2 ^ 16) % 2 ^ 16
+
+-- one more move added
+with-down : (f : ℕ → ℕ) (places : ℕ) → Linear f → Linear (λ x. bitXor (f x) (x / 2 ^ places))
+with-down f places p = linear-sum f (λ x. x / 2 ^ places) p (linear-down places)
+
+three-linear : (i j k : ℕ) → Linear (λ x. bitXor (bitXor (bitXor x (x / 2 ^ i)) (x / 2 ^ j)) (x / 2 ^ k))
+three-linear i j k =
+    with-down (λ x. bitXor (bitXor x (x / 2 ^ i)) (x / 2 ^ j)) k (with-down (λ x. bitXor x (x / 2 ^ i)) j (with-down (λ x. x) i linear-self))
+
+times-linear : Linear timesPolynomial
+times-linear =
+    linear-sum (λ x. bitXor x (x * 2 ^ 5)) (λ x. x * 2 ^ 12) (linear-sum (λ x. x) (λ x. x * 2 ^ 5) linear-self (linear-up 5)) (linear-up 12)
+
+remainder-linear : Linear remainderOf
+remainder-linear =
+    linear-then once (λ x. timesPolynomial (eightTimes (fourTimes (twice x)) % 2 ^ 16) % 2 ^ 16) (three-linear 4 11 16)
+    (linear-then twice (λ x. timesPolynomial (eightTimes (fourTimes x) % 2 ^ 16) % 2 ^ 16) (three-linear 8 22 32)
+    (linear-then fourTimes (λ x. timesPolynomial (eightTimes x % 2 ^ 16) % 2 ^ 16)
+    (with-down (λ x. bitXor x (x / 2 ^ 16)) 44 (with-down (λ x. x) 16 linear-self))
+    (linear-then eightTimes (λ x. timesPolynomial (x % 2 ^ 16) % 2 ^ 16) (with-down (λ x. x) 32 linear-self)
+    (linear-then (λ x. x % 2 ^ 16) (λ x. timesPolynomial x % 2 ^ 16) (linear-low 16)
+    (linear-then timesPolynomial (λ x. x % 2 ^ 16) times-linear (linear-low 16))))))
+
+-- the whole division, tried on each bit of a word
+pub divided : (w : ℕ) → w < 2 ^ 64 → remainderOf w ≡ crcOf 0 (highFirst 8 w)
+unfolding crcOf addByte shiftBits shiftBit
+divided = bits-enough remainderOf (checked 8 0) remainder-linear (checked-linear 8 0 0) 64 refl
+
+-- a register is moved up and added to the first two of some bytes, which are the last ones of a word
+abbrev onto : (ℕ → ℕ) → ℕ → ℕ → ℕ
+onto up r w = checked 8 0 (bitXor (up r) w)
+
+onto-linear : (up : ℕ → ℕ) → Linear up → Linear₂ (onto up)
+onto-linear up = linear-added (checked 8 0) up (checked-linear 8 0 0)
+
+pub eight-added : (r w : ℕ) → r < 2 ^ 16 → w < 2 ^ 64 → onto (λ x. x * 2 ^ 48) r w ≡ checked 8 r w
+unfolding crcOf addByte shiftBits shiftBit
+eight-added = agree (onto (λ x. x * 2 ^ 48)) (checked 8) (onto-linear (λ x. x * 2 ^ 48) (linear-up 48)) (checked-linear 8) 64 refl refl
+
+pub four-added : (r w : ℕ) → r < 2 ^ 16 → w < 2 ^ 32 → onto (λ x. x * 2 ^ 16) r w ≡ checked 4 r w
+unfolding crcOf addByte shiftBits shiftBit
+four-added = agree (onto (λ x. x * 2 ^ 16)) (checked 4) (onto-linear (λ x. x * 2 ^ 16) (linear-up 16)) (checked-linear 4) 32 refl refl
+
+pub two-added : (r w : ℕ) → r < 2 ^ 16 → w < 2 ^ 16 → onto (λ x. x) r w ≡ checked 2 r w
+unfolding crcOf addByte shiftBits shiftBit
+two-added = agree (onto (λ x. x)) (checked 2) (onto-linear (λ x. x) linear-self) (checked-linear 2) 16 refl refl

@@ -1,0 +1,46 @@
+-- One byte by the table. The byte is added to the register's high half, which falls out whole: what is left is the remainder of what fell
+-- out, and the low half moved up.
+use mathlib.Core.Path.{_≡_, refl, sym, ap, ap₂, _∙_}
+use mathlib.Core.List.{List, [], _∷_}
+use Prim.Native.Nat.{ℕ, _*_, _/_, _%_, _^_, _<_}
+use native.Mathlib.Omega.{arith}
+use lib.Bits.{bitXor, xor-lt, xor-mod, xor-shr}
+use lib.ListN.{getD}
+use Rattle.slices.proofs.XorLaws.{xor-swap, xor-shl}
+use Rattle.crc.specs.Crc.{shiftBit, shiftBits, addByte, crcOf}
+use Rattle.crc.specs.Table.{Remainders}
+use Rattle.crc.proofs.LinearLaws.{add-xor}
+use Rattle.crc.proofs.Values.{values, value-at}
+use Rattle.crc.proofs.SingleBits.{Linear₂, linear-added, linear-down, linear-low, linear-then, linear-up, agree}
+
+-- the rule holds of the table that is computed by it, and so of each that has these entries
+pub computed-table : Remainders (values (λ byte. crcOf 0 (byte ∷ [])) 256)
+computed-table = value-at (λ byte. crcOf 0 (byte ∷ [])) 256
+
+-- what the code does with a table of remainders
+abbrev fallen : ℕ → ℕ → ℕ
+fallen r b = addByte 0 (bitXor (r / 0x100) b)
+
+abbrev moved : ℕ → ℕ
+moved r = r % 0x100 * 0x100
+
+abbrev tabled : ℕ → ℕ → ℕ
+tabled r b = bitXor (fallen r b) (moved r)
+
+tabled-linear : Linear₂ tabled
+tabled-linear q r a b =
+    ap₂ bitXor (linear-added (addByte 0) (λ x. x / 0x100) (add-xor 0 0) (linear-down 8) q r a b)
+    (linear-then (λ x. x % 0x100) (λ x. x * 0x100) (linear-low 8) (linear-up 8) q r)
+    ∙ xor-swap (fallen q a) (fallen r b) (moved q) (moved r)
+
+tabled-adds : (r b : ℕ) → r < 0x10000 → b < 0x100 → tabled r b ≡ addByte r b
+unfolding addByte shiftBits shiftBit
+tabled-adds = agree tabled addByte tabled-linear add-xor 8 refl refl
+
+-- one byte by the table
+pub byte-by-table : (table : List ℕ) (r b : ℕ) → Remainders table → r < 0x10000 → b < 0x100
+    → bitXor (getD table (bitXor (r / 0x100) b) 0) (r % 0x100 * 0x100) ≡ addByte r b
+unfolding crcOf
+byte-by-table table r b rule register byte =
+    ap (λ (fallen : ℕ). bitXor fallen (r % 0x100 * 0x100)) (rule (bitXor (r / 0x100) b) (xor-lt 8 (r / 0x100) b (omega arith) byte))
+    ∙ tabled-adds r b register byte

@@ -118,7 +118,7 @@ static void print_row(const struct row *row, const struct workload *workload)
 int main(void)
 {
     static struct workload workloads[WORKLOADS];
-    table_crc_start();
+    crc_tables_start();
     workloads_make(workloads);
     printf("ns for one call; a ratio under 1.00 means that the library is faster\n");
     printf("%-11s  %7s  %-7s  %8s  %8s  %5s  %8s  %5s\n", "call", "payload", "kind", "library",

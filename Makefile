@@ -275,6 +275,16 @@ emptied:
 
 # The measurements
 
+# What is timed begins at a cache line, as some hundredths depend on its place in the program.
+ALIGN_C := -falign-functions=64
+ALIGN_ARCHIVE := objcopy --wildcard --set-section-alignment '.text.*=64'
+
+$(OUT)/library.a: $(ARCHIVE) | $(OUT)
+	$(ALIGN_ARCHIVE) $< $@
+
+$(OUT)/bitwise.a: $(BITWISE) | $(OUT)
+	$(ALIGN_ARCHIVE) $< $@
+
 # With EARLIER=COMMIT the library of that commit is measured too. It is proved and built in a folder of
 # its own, where the programs that measure it stand, and its calls are renamed to earlier_..
 BENCH_OUT := $(OUT)
@@ -291,17 +301,17 @@ $(EARLIER_ARCHIVE):
 	mkdir -p $(BENCH_OUT)
 	git archive $(COMMIT) | tar -x -C $(BENCH_OUT)
 	cd $(BENCH_OUT) && rt staticlib host
-	objcopy --wildcard --keep-global-symbol='earlier_*' $(RENAMED) \
+	$(ALIGN_ARCHIVE) --keep-global-symbol='earlier_*' $(RENAMED) \
 		$(BENCH_OUT)/target/staticlib/libhost.a $@
 endif
 
-LIBRARIES := $(ARCHIVE) $(BITWISE) $(EARLIER_ARCHIVE)
+LIBRARIES := $(OUT)/library.a $(OUT)/bitwise.a $(EARLIER_ARCHIVE)
 
 $(BENCH_OUT)/speed: bench/speed.c $(MEASURED) $(HEADERS) $(LIBRARIES) | $(OUT)
-	$(CC) $(BENCH_CFLAGS) $(EARLIER_FLAGS) -o $@ $(INPUTS)
+	$(CC) $(BENCH_CFLAGS) $(ALIGN_C) $(EARLIER_FLAGS) -o $@ $(INPUTS)
 
 $(BENCH_OUT)/stack: bench/stack.c bench/painted.c $(MEASURED) $(HEADERS) $(LIBRARIES) | $(OUT)
-	$(CC) $(BENCH_CFLAGS) $(EARLIER_FLAGS) -o $@ $(INPUTS)
+	$(CC) $(BENCH_CFLAGS) $(ALIGN_C) $(EARLIER_FLAGS) -o $@ $(INPUTS)
 
 # A program whose main, read and write have other names.
 $(OUT)/%.program.o: target/bin/% | $(OUT)
@@ -329,10 +339,10 @@ measure: $(BENCH_OUT)/stack $(addprefix $(OUT)/,replay_stack run_cases_stack)
 	@$(OUT)/replay_stack $(ITEM_HISTORIES)
 	@$(OUT)/run_cases_stack $(ITEM_CASES)
 	@echo "code size in bytes (text)"
-	@$(SIZE) $(LIBRARIES)
+	@$(SIZE) $(ARCHIVE) $(BITWISE) $(EARLIER_ARCHIVE)
 
 ## make bench            measure speed, stack and code size; beside the library of an earlier commit:
-##                       make bench EARLIER=COMMIT, which proves that one first (binutils)
+##                       make bench EARLIER=COMMIT, which proves that one first (binutils, git)
 bench: $(BENCH_OUT)/speed measure bench-receive
 	@$(BENCH_OUT)/speed
 

@@ -3,6 +3,8 @@
 # lines of this file that begin with ##.
 
 ARCHIVE ?= target/staticlib/libhost.a
+# The check bit by bit, which only the measurements link.
+BITWISE ?= target/staticlib/libbitwise_bench.a
 REPLAY ?= target/bin/replay
 CASES ?= target/bin/run_cases
 OUT ?= target/out
@@ -52,9 +54,10 @@ help:
 	@sed -n 's/^## \{0,1\}//p' $(firstword $(MAKEFILE_LIST))
 
 # rt proves again only what has changed.
-target/staticlib/libhost.a: crates.txt $(shell find crates -type f)
+$(patsubst %,target/staticlib/lib%.a,host bitwise_bench): target/staticlib/lib%.a: \
+		crates.txt $(shell find crates -type f)
 	$(need_rt)
-	rt staticlib host
+	rt staticlib $*
 	touch $@
 
 $(addprefix target/bin/,replay run_cases receive_bench): target/bin/%: \
@@ -272,11 +275,43 @@ emptied:
 
 # The measurements
 
-$(OUT)/speed: bench/speed.c $(MEASURED) $(HEADERS) $(ARCHIVE) | $(OUT)
-	$(CC) $(BENCH_CFLAGS) -o $@ $(INPUTS)
+# What is timed begins at a cache line, as some hundredths depend on its place in the program.
+ALIGN_C := -falign-functions=64
+ALIGN_ARCHIVE := objcopy --wildcard --set-section-alignment '.text.*=64'
 
-$(OUT)/stack: bench/stack.c bench/painted.c $(MEASURED) $(HEADERS) $(ARCHIVE) | $(OUT)
-	$(CC) $(BENCH_CFLAGS) -o $@ $(INPUTS)
+$(OUT)/library.a: $(ARCHIVE) | $(OUT)
+	$(ALIGN_ARCHIVE) $< $@
+
+$(OUT)/bitwise.a: $(BITWISE) | $(OUT)
+	$(ALIGN_ARCHIVE) $< $@
+
+# With EARLIER=COMMIT the library of that commit is measured too. It is proved and built in a folder of
+# its own, where the programs that measure it stand, and its calls are renamed to earlier_..
+BENCH_OUT := $(OUT)
+ifdef EARLIER
+COMMIT := $(shell git rev-parse --verify --quiet '$(EARLIER)^{commit}')
+$(if $(COMMIT),,$(error EARLIER=$(EARLIER) is no commit of this repository))
+BENCH_OUT := $(OUT)/earlier/$(COMMIT)
+EARLIER_ARCHIVE := $(BENCH_OUT)/libearlier.a
+EARLIER_FLAGS := -DEARLIER
+RENAMED := $(foreach call,crc frame_write frame_check,--redefine-sym arznavik_$(call)=earlier_$(call))
+
+$(EARLIER_ARCHIVE):
+	$(need_rt)
+	mkdir -p $(BENCH_OUT)
+	git archive $(COMMIT) | tar -x -C $(BENCH_OUT)
+	cd $(BENCH_OUT) && rt staticlib host
+	$(ALIGN_ARCHIVE) --keep-global-symbol='earlier_*' $(RENAMED) \
+		$(BENCH_OUT)/target/staticlib/libhost.a $@
+endif
+
+LIBRARIES := $(OUT)/library.a $(OUT)/bitwise.a $(EARLIER_ARCHIVE)
+
+$(BENCH_OUT)/speed: bench/speed.c $(MEASURED) $(HEADERS) $(LIBRARIES) | $(OUT)
+	$(CC) $(BENCH_CFLAGS) $(ALIGN_C) $(EARLIER_FLAGS) -o $@ $(INPUTS)
+
+$(BENCH_OUT)/stack: bench/stack.c bench/painted.c $(MEASURED) $(HEADERS) $(LIBRARIES) | $(OUT)
+	$(CC) $(BENCH_CFLAGS) $(ALIGN_C) $(EARLIER_FLAGS) -o $@ $(INPUTS)
 
 # A program whose main, read and write have other names.
 $(OUT)/%.program.o: target/bin/% | $(OUT)
@@ -297,18 +332,19 @@ $(OUT)/receive $(OUT)/plain_receiver: $(OUT)/%: bench/%.c $(PLAIN) $(HEADERS) | 
 $(OUT)/table_receiver: bench/plain_receiver.c $(PLAIN) $(HEADERS) | $(OUT)
 	$(CC) $(BENCH_CFLAGS) -DCONTENT_CRC=table_crc -o $@ $(INPUTS)
 
-## make measure          measure stack and code size alone (binutils)
-measure: $(addprefix $(OUT)/,stack replay_stack run_cases_stack)
-	@$(OUT)/stack
+## make measure          measure stack and code size alone; EARLIER as below (binutils)
+measure: $(BENCH_OUT)/stack $(addprefix $(OUT)/,replay_stack run_cases_stack)
+	@$(BENCH_OUT)/stack
 	@echo "stack in bytes of whole programs"
 	@$(OUT)/replay_stack $(ITEM_HISTORIES)
 	@$(OUT)/run_cases_stack $(ITEM_CASES)
 	@echo "code size in bytes (text)"
-	@$(SIZE) $(ARCHIVE)
+	@$(SIZE) $(ARCHIVE) $(BITWISE) $(EARLIER_ARCHIVE)
 
-## make bench            measure speed, stack and code size
-bench: $(OUT)/speed measure bench-receive
-	@$(OUT)/speed
+## make bench            measure speed, stack and code size; beside the library of an earlier commit:
+##                       make bench EARLIER=COMMIT, which proves that one first (binutils, git)
+bench: $(BENCH_OUT)/speed measure bench-receive
+	@$(BENCH_OUT)/speed
 
 ## make bench-receive    measure the speed of the receiver alone
 bench-receive: $(addprefix $(OUT)/,receive plain_receiver table_receiver) $(RECEIVER)

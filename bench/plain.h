@@ -5,12 +5,13 @@
 #include <stddef.h>
 #include <stdint.h>
 
-/* Bit by bit, and by a table of 256 remainders. */
+/* Bit by bit; by a table of 256 remainders; and by eight such tables, eight bytes a step. */
 uint16_t plain_crc(uint16_t start, const uint8_t *bytes, size_t length);
 uint16_t table_crc(uint16_t start, const uint8_t *bytes, size_t length);
+uint16_t sliced_crc(uint16_t start, const uint8_t *bytes, size_t length);
 
-/* Fills the table of table_crc; to be called once before it. */
-void table_crc_start(void);
+/* Fills the tables of the last two; to be called once before them. */
+void crc_tables_start(void);
 
 /* Arguments and reports as in arznavik.h, refusals included. */
 uint64_t plain_frame_write(uint8_t type, uint8_t sequence, const uint8_t *payload,

@@ -264,7 +264,7 @@ int main(void)
         return EXIT_FAILURE;
     size_t size = number(head), rounds = number(head + NUMBER_BYTES);
     size_t length = fread(stream, 1, sizeof stream, stdin);
-    table_crc_start();
+    crc_tables_start();
     receiver.last = -1;
     watch(&receiver.rows[0], "h1");
     watch(&receiver.rows[1], "h2");

@@ -1,5 +1,5 @@
 /*
- * Time of each call of the library, beside the same call in plain C. The calls of one row take
+ * Time of each call of the library, beside the same call by others. The calls of one row take
  * turns in short rounds. A time is that of the best round; a ratio is the median over the rounds,
  * as both sides of one round met the same load and clock.
  */
@@ -14,19 +14,6 @@
 
 #define ROUNDS 41
 #define ROUND_NS 1000000.0
-#define SUBJECTS_MAX 3
-
-/* One row of the table: the library, plain C and, if there is one, C by a table. */
-struct row {
-    const char *name;
-    workload_call *subjects[SUBJECTS_MAX];
-};
-
-static const struct row rows[] = {
-    {"crc", {library_crc_call, plain_crc_call, table_crc_call}},
-    {"frame write", {library_write_call, plain_write_call, NULL}},
-    {"frame check", {library_check_call, plain_check_call, NULL}},
-};
 
 /* Nanoseconds for one call, in each round. */
 struct times {
@@ -61,10 +48,10 @@ static unsigned calls_of_round(workload_call *call, const struct workload *workl
 
 static void measure(const struct row *row, const struct workload *workload, struct times *times)
 {
-    unsigned calls = calls_of_round(row->subjects[0], workload);
+    unsigned calls = calls_of_round(row->subjects[0].call, workload);
     for (int round = 0; round < ROUNDS; round++)
-        for (int i = 0; i < SUBJECTS_MAX && row->subjects[i] != NULL; i++)
-            times->ns[i][round] = time_call(row->subjects[i], workload, calls);
+        for (int i = 0; row->subjects[i].call != NULL; i++)
+            times->ns[i][round] = time_call(row->subjects[i].call, workload, calls);
 }
 
 static double best(const struct times *times, int subject)
@@ -94,11 +81,11 @@ static double ratio(const struct times *times, int subject)
 /* All must give the same answer, or their times mean nothing. */
 static void require_alike(const struct row *row, const struct workload *workload)
 {
-    uint64_t wanted = row->subjects[0](workload);
-    for (int i = 1; i < SUBJECTS_MAX && row->subjects[i] != NULL; i++) {
-        if (row->subjects[i](workload) == wanted)
+    uint64_t wanted = row->subjects[0].call(workload);
+    for (int i = 1; row->subjects[i].call != NULL; i++) {
+        if (row->subjects[i].call(workload) == wanted)
             continue;
-        fprintf(stderr, "%s: the answers differ\n", row->name);
+        fprintf(stderr, "%s: %s answers otherwise\n", row->name, row->subjects[i].name);
         exit(EXIT_FAILURE);
     }
 }
@@ -110,21 +97,30 @@ static void print_row(const struct row *row, const struct workload *workload)
     measure(row, workload, &times);
     printf("%-11s  %7zu  %-7s  %8.1f", row->name, workload->payload_length, workload->kind,
            best(&times, 0));
-    for (int i = 1; i < SUBJECTS_MAX && row->subjects[i] != NULL; i++)
+    for (int i = 1; row->subjects[i].call != NULL; i++)
         printf("  %8.1f  %5.2f", best(&times, i), ratio(&times, i));
     printf("\n");
 }
 
+static void print_table(const struct row *row, const struct workload *workloads, int count)
+{
+    printf("%-11s  %7s  %-7s  %8s", "call", "payload", "kind", row->subjects[0].name);
+    for (int i = 1; row->subjects[i].call != NULL; i++)
+        printf("  %8s  %5s", row->subjects[i].name, "ratio");
+    printf("\n");
+    for (int i = 0; i < count; i++)
+        print_row(row, &workloads[i]);
+}
+
 int main(void)
 {
-    static struct workload workloads[WORKLOADS];
-    table_crc_start();
+    static struct workload workloads[WORKLOADS], crc_workloads[CRC_WORKLOADS];
+    crc_tables_start();
     workloads_make(workloads);
+    crc_workloads_make(crc_workloads);
     printf("ns for one call; a ratio under 1.00 means that the library is faster\n");
-    printf("%-11s  %7s  %-7s  %8s  %8s  %5s  %8s  %5s\n", "call", "payload", "kind", "library",
-           "plain C", "ratio", "table C", "ratio");
-    for (size_t i = 0; i < sizeof rows / sizeof rows[0]; i++)
-        for (int j = 0; j < WORKLOADS; j++)
-            print_row(&rows[i], &workloads[j]);
+    print_table(&crc_row, crc_workloads, CRC_WORKLOADS);
+    print_table(&write_row, workloads, WORKLOADS);
+    print_table(&check_row, workloads, WORKLOADS);
     return fclose(stdout) == 0 ? EXIT_SUCCESS : EXIT_FAILURE;
 }

@@ -3,6 +3,7 @@
  * lost its paint counts. What a call of an empty function needs is taken off.
  */
 #include "painted.h"
+#include "plain.h"
 #include "workload.h"
 
 #include <stdio.h>
@@ -41,24 +42,24 @@ static size_t most(workload_call *call, const struct workload workloads[MEASURED
     return deepest;
 }
 
+static void print_row(const struct row *row, const struct workload workloads[MEASURED])
+{
+    size_t empty = most(empty_call, workloads);
+    printf("%-11s", row->name);
+    for (int i = 0; row->subjects[i].call != NULL; i++)
+        printf("  %s %zu", row->subjects[i].name, most(row->subjects[i].call, workloads) - empty);
+    printf("\n");
+}
+
 int main(void)
 {
     static struct workload workloads[MEASURED];
-    static const struct {
-        const char *name;
-        workload_call *library, *plain;
-    } calls[] = {
-        {"crc", library_crc_call, plain_crc_call},
-        {"frame write", library_write_call, plain_write_call},
-        {"frame check", library_check_call, plain_check_call},
-    };
+    crc_tables_start();
     workloads_make(workloads);
     workload_make_deepest(&workloads[WORKLOADS]);
-    size_t empty = most(empty_call, workloads);
-    printf("stack in bytes, the most over all inputs\n%-11s  %10s  %10s\n", "call", "library",
-           "plain C");
-    for (size_t i = 0; i < sizeof calls / sizeof calls[0]; i++)
-        printf("%-11s  %10zu  %10zu\n", calls[i].name, most(calls[i].library, workloads) - empty,
-               most(calls[i].plain, workloads) - empty);
+    printf("stack in bytes, the most over all inputs\n");
+    print_row(&crc_row, workloads);
+    print_row(&write_row, workloads);
+    print_row(&check_row, workloads);
     return fclose(stdout) == 0 ? EXIT_SUCCESS : EXIT_FAILURE;
 }

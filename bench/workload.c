@@ -5,6 +5,18 @@
 #define TYPE ARZNAVIK_TYPE_DATA
 #define SEQUENCE 0x05
 
+/* The check bit by bit, of crates/bitwise_bench. */
+uint16_t bitwise_crc(uint16_t start, const uint8_t *bytes, size_t length);
+
+#ifdef EARLIER
+/* The library of an earlier commit, its calls renamed: make bench EARLIER=COMMIT. */
+uint16_t earlier_crc(uint16_t start, const uint8_t *bytes, size_t length);
+uint64_t earlier_frame_write(uint8_t type, uint8_t sequence, const uint8_t *payload,
+                             size_t payload_length, uint8_t *output, size_t output_length);
+uint64_t earlier_frame_check(const uint8_t *frame, size_t frame_length, uint8_t *output,
+                             size_t output_length);
+#endif
+
 static uint8_t output[ARZNAVIK_FRAME_MAX];
 
 static void fill(struct workload *workload, int escaped, size_t length)
@@ -30,6 +42,13 @@ void workloads_make(struct workload workloads[WORKLOADS])
     }
 }
 
+void crc_workloads_make(struct workload workloads[CRC_WORKLOADS])
+{
+    static const size_t lengths[CRC_WORKLOADS] = {0, 4, 14, 64, ARZNAVIK_PAYLOAD_MAX};
+    for (size_t i = 0; i < CRC_WORKLOADS; i++)
+        fill(&workloads[i], 0, lengths[i]);
+}
+
 void workload_make_deepest(struct workload *workload)
 {
     fill(workload, 1, ARZNAVIK_PAYLOAD_MAX);
@@ -41,39 +60,61 @@ void workload_make_deepest(struct workload *workload)
     workload->frame[WORKLOAD_FRAME_MAX - 1] = ARZNAVIK_FLAG;
 }
 
-uint64_t library_crc_call(const struct workload *workload)
-{
-    return arznavik_crc(ARZNAVIK_CRC_START, workload->payload, workload->payload_length);
-}
+/* The calls of one side: arznavik, plain, .. */
+#define CRC_CALL(side)                                                                             \
+    static uint64_t side##_crc_call(const struct workload *workload)                               \
+    {                                                                                              \
+        return side##_crc(ARZNAVIK_CRC_START, workload->payload, workload->payload_length);        \
+    }
 
-uint64_t plain_crc_call(const struct workload *workload)
-{
-    return plain_crc(ARZNAVIK_CRC_START, workload->payload, workload->payload_length);
-}
+#define WRITE_CALL(side)                                                                           \
+    static uint64_t side##_write_call(const struct workload *workload)                             \
+    {                                                                                              \
+        return side##_frame_write(TYPE, SEQUENCE, workload->payload, workload->payload_length,     \
+                                  output, sizeof output);                                          \
+    }
 
-uint64_t table_crc_call(const struct workload *workload)
-{
-    return table_crc(ARZNAVIK_CRC_START, workload->payload, workload->payload_length);
-}
+#define CHECK_CALL(side)                                                                           \
+    static uint64_t side##_check_call(const struct workload *workload)                             \
+    {                                                                                              \
+        return side##_frame_check(workload->frame, workload->frame_length, output, sizeof output); \
+    }
 
-uint64_t library_write_call(const struct workload *workload)
-{
-    return arznavik_frame_write(TYPE, SEQUENCE, workload->payload, workload->payload_length, output,
-                                sizeof output);
-}
+#define CALLS(side) CRC_CALL(side) WRITE_CALL(side) CHECK_CALL(side)
 
-uint64_t plain_write_call(const struct workload *workload)
-{
-    return plain_frame_write(TYPE, SEQUENCE, workload->payload, workload->payload_length, output,
-                             sizeof output);
-}
+CALLS(arznavik)
+CALLS(plain)
+CRC_CALL(bitwise)
+CRC_CALL(table)
+CRC_CALL(sliced)
 
-uint64_t library_check_call(const struct workload *workload)
-{
-    return arznavik_frame_check(workload->frame, workload->frame_length, output, sizeof output);
-}
+#ifdef EARLIER
+CALLS(earlier)
+#define EARLIER_SUBJECT(call) {"earlier", earlier_##call},
+#else
+#define EARLIER_SUBJECT(call)
+#endif
 
-uint64_t plain_check_call(const struct workload *workload)
-{
-    return plain_frame_check(workload->frame, workload->frame_length, output, sizeof output);
-}
+const struct row crc_row = {
+    "crc",
+    {{"library", arznavik_crc_call},
+     {"bitwise", bitwise_crc_call},
+     {"plain C", plain_crc_call},
+     {"table C", table_crc_call},
+     {"sliced C", sliced_crc_call},
+     EARLIER_SUBJECT(crc_call)},
+};
+
+const struct row write_row = {
+    "frame write",
+    {{"library", arznavik_write_call},
+     {"plain C", plain_write_call},
+     EARLIER_SUBJECT(write_call)},
+};
+
+const struct row check_row = {
+    "frame check",
+    {{"library", arznavik_check_call},
+     {"plain C", plain_check_call},
+     EARLIER_SUBJECT(check_call)},
+};

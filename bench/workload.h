@@ -1,4 +1,4 @@
-/* The inputs that speed and stack are measured on. */
+/* The calls that speed and stack are measured of, and their inputs. */
 #ifndef WORKLOAD_H
 #define WORKLOAD_H
 
@@ -18,19 +18,35 @@ struct workload {
 };
 
 #define WORKLOADS 7
+#define CRC_WORKLOADS 5
 
 /* Payloads of 0, 14, 64 and 383 bytes, plain and escaped; 0 bytes have one kind. */
 void workloads_make(struct workload workloads[WORKLOADS]);
+
+/* Plain payloads of 0, 4, 14, 64 and 383 bytes, for the crc. */
+void crc_workloads_make(struct workload workloads[CRC_WORKLOADS]);
 
 /* The longest payload, and with it the longest run of bytes that the frame check looks at: pairs
  * up to the one that passes the content's limit. */
 void workload_make_deepest(struct workload *workload);
 
-/* One call on one workload, by the library or by plain C. */
+/* One call on one workload. */
 typedef uint64_t workload_call(const struct workload *workload);
 
-workload_call library_crc_call, plain_crc_call, table_crc_call;
-workload_call library_write_call, plain_write_call;
-workload_call library_check_call, plain_check_call;
+struct subject {
+    const char *name;
+    workload_call *call;
+};
+
+#define SUBJECTS_MAX 6
+
+/* A call by the library, which stands first, and by what it is measured against. The last subject
+ * has no call. */
+struct row {
+    const char *name;
+    struct subject subjects[SUBJECTS_MAX + 1];
+};
+
+extern const struct row crc_row, write_row, check_row;
 
 #endif

@@ -211,7 +211,7 @@ int LLVMFuzzerInitialize(int *argc, char ***argv)
     map(&payloads);
     for (size_t i = 0; i < MEMORY; i++)
         pattern[i] = (uint8_t)(i * 167 + (i >> 8) + 13);
-    table_crc_start();
+    crc_tables_start();
     coverage_start();
     return 0;
 }

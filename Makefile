@@ -20,7 +20,7 @@ RUSTFLAGS := --edition 2021 -C opt-level=2 -D warnings
 BENCH_CFLAGS := -std=c99 -O3 $(WARNINGS) -Iinclude
 
 HEADERS := $(wildcard include/*.h $(addsuffix /*.h,tests/c tests/fuzz bench examples/firmware))
-C_TESTS := known_answers writer reader header collector line
+C_TESTS := known_answers crc writer reader header collector line
 TESTS := $(C_TESTS) serial reference division differential replay_reference replay_test \
 	history_text history_text_test ash_reference ash_test packet_reference packet_test \
 	session_reference session_test
@@ -98,6 +98,9 @@ $(OUT)/expect.o $(OUT)/calls.o: $(OUT)/%.o: tests/c/%.c $(HEADERS) | $(OUT)
 $(OUT)/known_answers $(OUT)/writer $(OUT)/reader: $(OUT)/%: tests/c/%.c $(HEADERS) \
 		$(OUT)/calls.o $(OUT)/expect.o $(ARCHIVE)
 	$(CC) $(CFLAGS) -o $@ $(INPUTS)
+
+$(OUT)/crc: tests/c/crc.c $(PLAIN) $(HEADERS) $(OUT)/expect.o $(ARCHIVE)
+	$(CC) $(CFLAGS) -Ibench -o $@ $(INPUTS)
 
 $(OUT)/header: tests/c/header.cpp $(HEADERS) $(OUT)/expect.o $(ARCHIVE)
 	$(CXX) $(CXXFLAGS) -o $@ $(INPUTS)

@@ -22,8 +22,8 @@ RUSTFLAGS := --edition 2021 -C opt-level=2 -D warnings
 BENCH_CFLAGS := -std=c99 -O3 $(WARNINGS) -Iinclude
 
 HEADERS := $(wildcard include/*.h $(addsuffix /*.h,tests/c tests/fuzz bench examples/firmware))
-C_TESTS := known_answers writer reader header collector line
-TESTS := $(C_TESTS) serial reference differential replay_reference replay_test \
+C_TESTS := known_answers crc writer reader header collector line
+TESTS := $(C_TESTS) serial reference division differential replay_reference replay_test \
 	history_text history_text_test ash_reference ash_test packet_reference packet_test \
 	session_reference session_test
 PLAIN := bench/plain_frame.c bench/plain_crc.c
@@ -102,6 +102,9 @@ $(OUT)/known_answers $(OUT)/writer $(OUT)/reader: $(OUT)/%: tests/c/%.c $(HEADER
 		$(OUT)/calls.o $(OUT)/expect.o $(ARCHIVE)
 	$(CC) $(CFLAGS) -o $@ $(INPUTS)
 
+$(OUT)/crc: tests/c/crc.c $(PLAIN) $(HEADERS) $(OUT)/expect.o $(ARCHIVE)
+	$(CC) $(CFLAGS) -Ibench -o $@ $(INPUTS)
+
 $(OUT)/header: tests/c/header.cpp $(HEADERS) $(OUT)/expect.o $(ARCHIVE)
 	$(CXX) $(CXXFLAGS) -o $@ $(INPUTS)
 
@@ -119,6 +122,9 @@ $(OUT)/serial: tests/c/serial.c $(HEADERS) $(OUT)/expect.o
 RUST_SHARED := $(wildcard tests/shared/*.rs tests/reference/*.rs)
 
 $(OUT)/reference: tests/reference/frame.rs | $(OUT)
+	$(call rust,--test)
+
+$(OUT)/division: tests/reference/division.rs | $(OUT)
 	$(call rust,--test)
 
 $(OUT)/differential: tests/differential/main.rs $(wildcard tests/differential/*.rs) $(RUST_SHARED) \
@@ -171,6 +177,7 @@ test: $(addprefix $(OUT)/,$(TESTS)) $(OUT)/display $(REPLAY) $(CASES)
 	@diff -r -x '*.txt' $(OUT)/histories examples/histories
 	@tests/histories/run.sh $(REPLAY) examples/histories
 	@$(OUT)/reference --quiet
+	@$(OUT)/division --quiet
 	@$(OUT)/differential
 	@$(OUT)/history_text_test --quiet
 	@tests/history_text/run.sh $(OUT)/history_text $(CASE_6).history $(CASE_6).txt

@@ -15,6 +15,8 @@ pub fn cases() -> impl Iterator<Item = Case> {
         .chain(every_room())
         .chain(every_header_escape())
         .chain(every_sent_length())
+        .chain(every_payload_length())
+        .chain(every_payload_byte())
         .chain(every_change())
         .chain(every_cut())
 }
@@ -95,6 +97,30 @@ fn every_sent_length() -> impl Iterator<Item = Case> {
             let mut parts = Parts::new(ACK, &plain(length));
             parts.escape = escape;
             read(parts.frame())
+        })
+    })
+}
+
+/// Payloads of each length, plain, of unlike bytes and with escapes, written and read back; the
+/// check is over four bytes more.
+fn every_payload_length() -> impl Iterator<Item = Case> {
+    let payloads = (0..=PAYLOAD_MAX).flat_map(|n| [plain(n), unlike(n), stuffed(n)]);
+    payloads.flat_map(|payload| written_and_read(ACK, &payload))
+}
+
+/// Unlike bytes, so that two that changed places show. Few are reserved.
+fn unlike(length: usize) -> Vec<u8> {
+    (0..length).map(|place| (place * 167 + 13) as u8).collect()
+}
+
+/// Each byte at each place of eleven. If the check takes eight bytes at a time, four of these go
+/// with the header's four, and seven are left over.
+fn every_payload_byte() -> impl Iterator<Item = Case> {
+    (0..11).flat_map(|place| {
+        (0..=255).flat_map(move |byte| {
+            let mut payload = unlike(11);
+            payload[place] = byte;
+            written_and_read(ACK, &payload)
         })
     })
 }

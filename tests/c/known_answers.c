@@ -58,8 +58,35 @@ static void checks(void)
     expect_number("no bytes, start 1234", arznavik_crc_of(0x1234, content, 0), 0x1234);
     expect_number("123456789, start ffff", arznavik_crc_of(start, digits, 9), 0x29b1);
     expect_number("123456789, start 0", arznavik_crc_of(0, digits, 9), 0x31c3);
+    expect_number("123456789, start 1d0f", arznavik_crc_of(0x1d0f, digits, 9), 0xe5cc);
     expect_number("123456789 in halves",
                   arznavik_crc_of(arznavik_crc_of(start, digits, 4), digits + 4, 5), 0x29b1);
+}
+
+/* The first three and the last of the 256 remainders, one for each byte. */
+static void remainders(void)
+{
+    static const uint8_t bytes[] = {0x00, 0x01, 0x02, 0xff};
+    static const uint16_t wanted[] = {0x0000, 0x1021, 0x2042, 0x1ef0};
+    for (size_t i = 0; i < sizeof bytes; i++)
+        expect_number("one byte, start 0", arznavik_crc_of(0, bytes + i, 1), wanted[i]);
+}
+
+/* Strings of 7 to 17 bytes. Byte i is 167 i + 13; the values are of Python's binascii.crc_hqx. */
+static void lengths(void)
+{
+    static const struct {
+        size_t length;
+        uint16_t check;
+    } answers[] = {{7, 0x4026},  {8, 0x0cb3},  {9, 0x6aed},
+                   {15, 0x1f10}, {16, 0x5865}, {17, 0x11c7}};
+    uint8_t bytes[17];
+    for (size_t i = 0; i < sizeof bytes; i++)
+        bytes[i] = (uint8_t)(i * 167 + 13);
+    for (size_t i = 0; i < sizeof answers / sizeof answers[0]; i++)
+        expect_number("7 to 17 bytes, start ffff",
+                      arznavik_crc_of(ARZNAVIK_CRC_START, bytes, answers[i].length),
+                      answers[i].check);
 }
 
 /* The check of the exclusive-or of three strings is that of their checks; of two it is not. */
@@ -88,6 +115,8 @@ int main(void)
     frames();
     data_frame();
     checks();
+    remainders();
+    lengths();
     exclusive_or();
     return expect_summary("known answers");
 }

@@ -12,6 +12,12 @@ pub enum Class {
     WrittenWithRoom,
     WriteRefused(Refusal),
     Crc,
+    ByteAlone,
+    EachStart,
+    ByteAtPlace,
+    BitAlone,
+    TwoBits,
+    Placed,
     Joined,
     JoinedWithEmpty,
     ThreeStrings,
@@ -35,13 +41,19 @@ impl Class {
     }
 }
 
-const TAKEN: [Class; 10] = [
+const TAKEN: [Class; 16] = [
     Class::CheckedEmpty,
     Class::Checked,
     Class::CheckedLongest,
     Class::WrittenExactly,
     Class::WrittenWithRoom,
     Class::Crc,
+    Class::ByteAlone,
+    Class::EachStart,
+    Class::ByteAtPlace,
+    Class::BitAlone,
+    Class::TwoBits,
+    Class::Placed,
     Class::Joined,
     Class::JoinedWithEmpty,
     Class::ThreeStrings,

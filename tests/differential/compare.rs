@@ -2,8 +2,9 @@
 
 use crate::archive;
 use crate::classes::Class;
+use crate::division;
 use crate::frame::{check, read_frame, write_frame, Frame, Refusal};
-use crate::inputs::{CheckInput, CrcInput, JoinedInput, ThreeInput, WriteInput};
+use crate::inputs::{CheckInput, CrcInput, JoinedInput, ThreeInput, WriteInput, PLACED_MAX};
 
 /// Bytes on both sides of a lent output that must stay.
 const GUARD: usize = 16;
@@ -111,10 +112,7 @@ pub fn frame_write(input: &WriteInput) -> Result<Class, String> {
     Ok(class)
 }
 
-/// The library's check, which is to be the reference's.
-fn checked(start: u16, bytes: &[u8]) -> Result<u16, String> {
-    let got = archive::crc(start, bytes);
-    let wanted = check(start, bytes);
+fn alike(start: u16, bytes: &[u8], got: u16, wanted: u16) -> Result<u16, String> {
     if got != wanted {
         let bytes = hex(bytes);
         return Err(format!(
@@ -124,9 +122,62 @@ fn checked(start: u16, bytes: &[u8]) -> Result<u16, String> {
     Ok(got)
 }
 
-pub fn crc(input: &CrcInput) -> Result<Class, String> {
-    checked(input.start, &input.bytes)?;
-    Ok(Class::Crc)
+/// The library's check, which is to be the reference's.
+fn checked(start: u16, bytes: &[u8]) -> Result<u16, String> {
+    alike(
+        start,
+        bytes,
+        archive::crc(start, bytes),
+        check(start, bytes),
+    )
+}
+
+/// The same, and it is to be that of the division too.
+fn checked_twice(input: &CrcInput) -> Result<u16, String> {
+    let (start, bytes) = (input.start, &input.bytes);
+    let got = checked(start, bytes)?;
+    alike(start, bytes, got, division::check(start, bytes))
+}
+
+pub fn crc(class: Class, input: &CrcInput) -> Result<Class, String> {
+    checked_twice(input)?;
+    Ok(class)
+}
+
+/// A string that differs in two bits from one with check 0.
+pub fn two_bits(input: &CrcInput) -> Result<Class, String> {
+    match checked_twice(input)? {
+        0 => Err(format!("bytes {}: two bits unseen", hex(&input.bytes))),
+        _ => Ok(Class::TwoBits),
+    }
+}
+
+/// Places of a string in memory: one for each remainder of its address by eight.
+const PLACES: usize = 8;
+
+/// Bytes that stand around a string.
+const AROUND: [u8; 3] = [0x00, 0x5a, 0xff];
+
+/// Room for the longest string at the last place, and for bytes on both sides.
+const MEMORY: usize = GUARD + PLACES + PLACED_MAX + GUARD;
+
+#[repr(align(8))]
+struct Memory([u8; MEMORY]);
+
+/// The check asks neither where its string stands nor what stands around it.
+pub fn placed(input: &CrcInput) -> Result<Class, String> {
+    let (start, bytes) = (input.start, &input.bytes);
+    let wanted = checked_twice(input)?;
+    for around in AROUND {
+        for place in 0..PLACES {
+            let mut memory = Memory([around; MEMORY]);
+            let string = &mut memory.0[GUARD + place..][..bytes.len()];
+            string.copy_from_slice(bytes);
+            alike(start, bytes, archive::crc(start, string), wanted)
+                .map_err(|fault| format!("at place {place} among {around:02x}, {fault}"))?;
+        }
+    }
+    Ok(Class::Placed)
 }
 
 /// The check of two strings joined is the second's, started from the first's check.

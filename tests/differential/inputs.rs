@@ -1,4 +1,4 @@
-//! Inputs for the three calls and the two laws of the check: random, valid, damaged, and at each
+//! Random inputs for the three calls and the two laws of the check: valid, damaged, and at each
 //! limit.
 
 use crate::frame::{enclose, stuff, ESCAPE, FLAG};
@@ -39,6 +39,9 @@ pub struct ThreeInput {
 /// Payload lengths around each limit; 384 and 385 make content of 388 and 389 bytes.
 const LENGTHS: [usize; 12] = [0, 1, 2, 3, 14, 64, 381, 382, 383, 384, 385, 400];
 
+/// The longest string that is placed.
+pub const PLACED_MAX: usize = 40;
+
 /// Longer than any content, any field of a history, and 16 bits.
 const LONG_LENGTHS: [usize; 4] = [1_000, 4_096, 65_537, 100_000];
 
@@ -66,15 +69,15 @@ fn length(random: &mut Random) -> usize {
     }
 }
 
-/// A string's length for a law of the check, which holds of any length.
-fn law_length(random: &mut Random) -> usize {
+/// The length of a string for the check, which takes any.
+fn any_length(random: &mut Random) -> usize {
     match random.below(200) {
         0 => random.one_of(&LONG_LENGTHS),
         _ => length(random),
     }
 }
 
-fn between_flags(sent: &[u8]) -> Vec<u8> {
+pub fn between_flags(sent: &[u8]) -> Vec<u8> {
     [&[FLAG], sent, &[FLAG]].concat()
 }
 
@@ -180,17 +183,6 @@ pub fn check_input(random: &mut Random) -> CheckInput {
     CheckInput { frame, room }
 }
 
-/// Every frame with at most two bytes between its flags.
-pub fn every_short_frame() -> impl Iterator<Item = CheckInput> {
-    let one = (0..=255).map(|byte| vec![byte]);
-    let two = (0..=0xffff).map(|pair: u16| pair.to_be_bytes().to_vec());
-    let between = std::iter::once(Vec::new()).chain(one).chain(two);
-    between.map(|sent| CheckInput {
-        frame: between_flags(&sent),
-        room: 383,
-    })
-}
-
 pub fn write_input(random: &mut Random) -> WriteInput {
     let (kind, sequence) = (header_byte(random), header_byte(random));
     let length = length(random);
@@ -218,7 +210,14 @@ fn start(random: &mut Random) -> u16 {
 }
 
 pub fn crc_input(random: &mut Random) -> CrcInput {
-    let length = length(random);
+    let length = any_length(random);
+    CrcInput {
+        start: start(random),
+        bytes: bytes(random, length),
+    }
+}
+
+pub fn placed_input(random: &mut Random, length: usize) -> CrcInput {
     CrcInput {
         start: start(random),
         bytes: bytes(random, length),
@@ -226,7 +225,7 @@ pub fn crc_input(random: &mut Random) -> CrcInput {
 }
 
 pub fn joined_input(random: &mut Random) -> JoinedInput {
-    let lengths = [law_length(random), law_length(random)];
+    let lengths = [any_length(random), any_length(random)];
     JoinedInput {
         start: start(random),
         first: bytes(random, lengths[0]),
@@ -235,7 +234,7 @@ pub fn joined_input(random: &mut Random) -> JoinedInput {
 }
 
 pub fn three_input(random: &mut Random) -> ThreeInput {
-    let length = law_length(random);
+    let length = any_length(random);
     ThreeInput {
         start: start(random),
         strings: std::array::from_fn(|_| bytes(random, length)),

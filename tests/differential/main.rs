@@ -4,6 +4,8 @@
 mod archive;
 mod classes;
 mod compare;
+#[path = "../reference/division.rs"]
+mod division;
 #[path = "../reference/frame.rs"]
 mod frame;
 mod inputs;
@@ -11,6 +13,7 @@ mod inputs;
 mod random;
 #[path = "../shared/seeds.rs"]
 mod seeds;
+mod systematic;
 #[path = "../shared/tally.rs"]
 #[allow(dead_code)]
 mod tally;
@@ -24,6 +27,8 @@ use tally::Tally;
 const CHECKS: usize = 40_000;
 const WRITES: usize = 20_000;
 const CRCS: usize = 5_000;
+// A hundred of each length.
+const PLACED: usize = 100 * (inputs::PLACED_MAX + 1);
 const LAWS: usize = 5_000;
 
 /// Failures that are printed before the run gives up.
@@ -68,7 +73,12 @@ impl Run {
             compare::frame_write(&inputs::write_input(&mut random))
         });
         self.repeat(CRCS, &format!("seed {seed}, crc"), || {
-            compare::crc(&inputs::crc_input(&mut random))
+            compare::crc(Class::Crc, &inputs::crc_input(&mut random))
+        });
+        let mut lengths = (0..=inputs::PLACED_MAX).cycle();
+        self.repeat(PLACED, &format!("seed {seed}, crc at each place"), || {
+            let length = lengths.next().expect("a length without end");
+            compare::placed(&inputs::placed_input(&mut random, length))
         });
         self.repeat(LAWS, &format!("seed {seed}, strings joined"), || {
             compare::joined(&inputs::joined_input(&mut random))
@@ -78,13 +88,46 @@ impl Run {
         });
     }
 
-    fn every_short_frame(&mut self) {
-        for input in inputs::every_short_frame() {
+    fn each<Input>(
+        &mut self,
+        input: &str,
+        inputs: impl Iterator<Item = Input>,
+        compare: impl Fn(&Input) -> Result<Class, String>,
+    ) {
+        for each in inputs {
             if self.failures == FAILURES_SHOWN {
                 return;
             }
-            self.note("short frame", compare::frame_check(&input));
+            self.note(input, compare(&each));
         }
+    }
+
+    fn systematic_frames(&mut self) {
+        let checks = systematic::every_short_frame();
+        self.each("short frame", checks, compare::frame_check);
+        let checks = systematic::every_length_checked();
+        self.each("payload length, check", checks, compare::frame_check);
+        let checks = systematic::every_two_bits_in_a_frame();
+        self.each("two bits in a frame", checks, compare::frame_check);
+        let writes = systematic::every_length_written();
+        self.each("payload length, write", writes, compare::frame_write);
+    }
+
+    fn systematic_checks(&mut self) {
+        self.each("byte alone", systematic::every_byte(), |input| {
+            compare::crc(Class::ByteAlone, input)
+        });
+        self.each("each start", systematic::every_start(), |input| {
+            compare::crc(Class::EachStart, input)
+        });
+        let bytes = systematic::every_byte_at_every_place();
+        self.each("byte at its place", bytes, |input| {
+            compare::crc(Class::ByteAtPlace, input)
+        });
+        self.each("bit alone", systematic::every_bit(), |input| {
+            compare::crc(Class::BitAlone, input)
+        });
+        self.each("two bits", systematic::every_two_bits(), compare::two_bits);
     }
 }
 
@@ -100,7 +143,8 @@ fn main() -> ExitCode {
         tally: Tally::new(Class::all()),
         failures: 0,
     };
-    run.every_short_frame();
+    run.systematic_checks();
+    run.systematic_frames();
     seeds.iter().for_each(|seed| run.seed(*seed));
     run.tally.print();
     let missing = run.tally.rare(1);

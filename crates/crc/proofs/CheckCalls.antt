@@ -1,5 +1,6 @@
--- The two laws of 02, C-24, over calls of `crc::check`, by the contract that the toolchain reads off the source (`Learnt`): a contract that
--- says less breaks them. They hold for each start value and for strings of any length, empty ones too.
+-- The two laws of 02, C-24, over calls of `crc::check`, and the sentence of C-15 over calls of the tabled loop, by the contracts that the
+-- toolchain reads off the source (`Learnt`): a contract that says less breaks them. They hold for each start value and
+-- for strings of any length, empty ones too.
 use mathlib.Core.Path.{_≡_, refl, sym, ap, ap₂, _∙_}
 use mathlib.Core.List.{List, _++_}
 use Prim.Native.Nat.{ℕ}
@@ -11,6 +12,7 @@ use Rattle.crc.specs.Crc.{crcOf}
 use Rattle.crc.proofs.CrcLaws.{crc-append}
 use Rattle.crc.proofs.LinearLaws.{crc-three}
 use Rattle.crc.proofs.check.Reads as check
+use Rattle.crc.proofs.table.check_by_table.Reads as table
 
 -- a call of `crc::check`
 abbrev pub Checks : (start : ℕ) (bytes : List ℕ) (answer : ℕ) → Type 0
@@ -37,3 +39,14 @@ exclusive-or start xs ys zs first second third all two three of-first of-second 
 -- There is such a call for each start value and all bytes, since the contract asks nothing.
 pub all-bytes-are-checked : (start : ℕ) (bytes : List ℕ) → Checks start bytes (crcOf start bytes)
 all-bytes-are-checked start bytes = in-call tt refl
+
+-- a call of the tabled loop
+abbrev pub ChecksByTable : (start : ℕ) (bytes : List ℕ) (answer : ℕ) → Type 0
+ChecksByTable start = InCall table.Asked table.Learnt (λ bytes. (start, (bytes, tt)))
+
+-- THEOREM (02, C-15). The tabled check equals the bitwise one, `crcOf`, and so what `crc::check` answers.
+pub tabled : (start : ℕ) (bytes : List ℕ) (answer : ℕ) → ChecksByTable start bytes answer → answer ≡ crcOf start bytes
+tabled start bytes answer call = rw (call .input-lent .holds) at (call .learnt)
+
+pub all-bytes-are-tabled : (start : ℕ) (bytes : List ℕ) → ChecksByTable start bytes (crcOf start bytes)
+all-bytes-are-tabled start bytes = in-call tt refl

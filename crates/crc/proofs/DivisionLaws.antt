@@ -70,19 +70,22 @@ unfolding crcOf addByte shiftBits shiftBit
 divided = bits-enough remainderOf (checked 8 0) remainder-linear (checked-linear 8 0 0) 64 refl
 
 -- a register is moved up and added to the first two of some bytes, which are the last ones of a word
+abbrev up : ℕ → ℕ → ℕ
+up places r = r * 2 ^ places
+
 abbrev onto : (ℕ → ℕ) → ℕ → ℕ → ℕ
-onto up r w = checked 8 0 (bitXor (up r) w)
+onto moved r w = checked 8 0 (bitXor (moved r) w)
 
-onto-linear : (up : ℕ → ℕ) → Linear up → Linear₂ (onto up)
-onto-linear up = linear-added (checked 8 0) up (checked-linear 8 0 0)
+onto-linear : (moved : ℕ → ℕ) → Linear moved → Linear₂ (onto moved)
+onto-linear moved = linear-added (checked 8 0) moved (checked-linear 8 0 0)
 
-pub eight-added : (r w : ℕ) → r < 2 ^ 16 → w < 2 ^ 64 → onto (λ x. x * 2 ^ 48) r w ≡ checked 8 r w
+pub eight-added : (r w : ℕ) → r < 2 ^ 16 → w < 2 ^ 64 → onto (up 48) r w ≡ checked 8 r w
 unfolding crcOf addByte shiftBits shiftBit
-eight-added = agree (onto (λ x. x * 2 ^ 48)) (checked 8) (onto-linear (λ x. x * 2 ^ 48) (linear-up 48)) (checked-linear 8) 64 refl refl
+eight-added = agree (onto (up 48)) (checked 8) (onto-linear (up 48) (linear-up 48)) (checked-linear 8) 64 refl refl
 
-pub four-added : (r w : ℕ) → r < 2 ^ 16 → w < 2 ^ 32 → onto (λ x. x * 2 ^ 16) r w ≡ checked 4 r w
+pub four-added : (r w : ℕ) → r < 2 ^ 16 → w < 2 ^ 32 → onto (up 16) r w ≡ checked 4 r w
 unfolding crcOf addByte shiftBits shiftBit
-four-added = agree (onto (λ x. x * 2 ^ 16)) (checked 4) (onto-linear (λ x. x * 2 ^ 16) (linear-up 16)) (checked-linear 4) 32 refl refl
+four-added = agree (onto (up 16)) (checked 4) (onto-linear (up 16) (linear-up 16)) (checked-linear 4) 32 refl refl
 
 pub two-added : (r w : ℕ) → r < 2 ^ 16 → w < 2 ^ 16 → onto (λ x. x) r w ≡ checked 2 r w
 unfolding crcOf addByte shiftBits shiftBit

@@ -18,8 +18,11 @@ pub computed-table : Remainders (values (λ byte. crcOf 0 (byte ∷ [])) 256)
 computed-table = value-at (λ byte. crcOf 0 (byte ∷ [])) 256
 
 -- what the code does with a table of remainders
+abbrev index : ℕ → ℕ → ℕ
+index r b = bitXor (r / 0x100) b
+
 abbrev fallen : ℕ → ℕ → ℕ
-fallen r b = addByte 0 (bitXor (r / 0x100) b)
+fallen r b = addByte 0 (index r b)
 
 abbrev moved : ℕ → ℕ
 moved r = r % 0x100 * 0x100
@@ -39,8 +42,7 @@ tabled-adds = agree tabled addByte tabled-linear add-xor 8 refl refl
 
 -- one byte by the table
 pub byte-by-table : (table : List ℕ) (r b : ℕ) → Remainders table → r < 0x10000 → b < 0x100
-    → bitXor (getD table (bitXor (r / 0x100) b) 0) (r % 0x100 * 0x100) ≡ addByte r b
+    → bitXor (getD table (index r b) 0) (moved r) ≡ addByte r b
 unfolding crcOf
 byte-by-table table r b rule register byte =
-    ap (λ (fallen : ℕ). bitXor fallen (r % 0x100 * 0x100)) (rule (bitXor (r / 0x100) b) (xor-lt 8 (r / 0x100) b (omega arith) byte))
-    ∙ tabled-adds r b register byte
+    ap (λ (entry : ℕ). bitXor entry (moved r)) (rule (index r b) (xor-lt 8 (r / 0x100) b (omega arith) byte)) ∙ tabled-adds r b register byte

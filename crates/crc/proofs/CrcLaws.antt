@@ -3,11 +3,13 @@
 use mathlib.Core.Path.{_≡_, refl, sym, ap, ap₂, _∙_}
 use mathlib.Core.List.{List, [], _∷_, _++_}
 use Prim.Native.Nat.{ℕ, zero, suc, _+_, _*_, _/_, _%_, _^_, _≤_, _<_}
+use native.Mathlib.Numerals.{add-one}
 use native.Mathlib.Omega.{arith}
 use native.Mathlib.Nat.{mul-assoc, pow-succ', le-mul-of-pos-right, zero-add}
 use lib.Bits.{bitXor, xor-block, xor-self, xor-zero-r}
-use lib.ListN.{length, drop, drop-of-length-le}
+use lib.ListN.{length, drop, getD, drop-of-length-le}
 use lib.Pow.{pow-pos}
+use lib.Seq.{drop-cons}
 use borrow.Author.Tests.{ne-eqb}
 use Rattle.crc.specs.Crc.{shiftBit, shiftBits, addByte, crcOf, checkBytes}
 
@@ -16,6 +18,11 @@ pub crc-append : (r : ℕ) (xs ys : List ℕ) → crcOf r (xs ++ ys) ≡ crcOf (
 unfolding crcOf
 crc-append r [] ys = refl
 crc-append r (b ∷ bs) ys = crc-append (addByte r b) bs ys
+
+-- one byte less to add
+pub byte-added : (r : ℕ) (s : List ℕ) (i : ℕ) → i < length s → crcOf (addByte r (getD s i 0)) (drop (i + 1) s) ≡ crcOf r (drop i s)
+unfolding crcOf
+byte-added r s i h = rw (add-one, drop-cons s i 0 h)
 
 -- nothing is left to add
 pub all-added : (r : ℕ) (s : List ℕ) (i : ℕ) → length s ≤ i → crcOf r (drop i s) ≡ r

@@ -1,11 +1,8 @@
--- Eight, four or two bytes added to the register at once. Both what the code does and the check are linear (02, C-24), so they are tried on each
+-- Eight or two bytes added to the register at once. Both what the code does and the check are linear (02, C-24), so they are tried on each
 -- single bit of the register and of the bytes.
 use mathlib.Core.Path.{_≡_, refl, sym, ap, _∙_}
-use mathlib.Core.List.{List, [], _∷_}
 use Prim.Native.Nat.{ℕ, _*_, _/_, _%_, _^_, _<_}
-use native.Mathlib.Omega.{arith}
 use lib.Bits.{bitXor}
-use lib.ListN.{length}
 use Rattle.slices.specs.HighFirst.{highFirst}
 use Rattle.slices.proofs.HighFirstLaws.{high-length}
 use Rattle.slices.proofs.XorStrings.{high-xor}
@@ -82,10 +79,6 @@ onto-linear moved = linear-added (checked 8 0) moved (checked-linear 8 0 0)
 pub eight-added : (r w : ℕ) → r < 2 ^ 16 → w < 2 ^ 64 → onto (up 48) r w ≡ checked 8 r w
 unfolding crcOf addByte shiftBits shiftBit
 eight-added = agree (onto (up 48)) (checked 8) (onto-linear (up 48) (linear-up 48)) (checked-linear 8) 64 refl refl
-
-pub four-added : (r w : ℕ) → r < 2 ^ 16 → w < 2 ^ 32 → onto (up 16) r w ≡ checked 4 r w
-unfolding crcOf addByte shiftBits shiftBit
-four-added = agree (onto (up 16)) (checked 4) (onto-linear (up 16) (linear-up 16)) (checked-linear 4) 32 refl refl
 
 pub two-added : (r w : ℕ) → r < 2 ^ 16 → w < 2 ^ 16 → onto (λ x. x) r w ≡ checked 2 r w
 unfolding crcOf addByte shiftBits shiftBit

@@ -1,12 +1,12 @@
 -- One byte by the table. The byte is added to the register's high half, which falls out whole: what is left is the remainder of what fell
 -- out, and the low half moved up.
-use mathlib.Core.Path.{_≡_, refl, sym, ap, ap₂, _∙_}
+use mathlib.Core.Path.{_≡_, refl, ap, ap₂, _∙_}
 use mathlib.Core.List.{List, [], _∷_}
-use Prim.Native.Nat.{ℕ, _*_, _/_, _%_, _^_, _<_}
+use Prim.Native.Nat.{ℕ, _*_, _/_, _%_, _<_}
 use native.Mathlib.Omega.{arith}
-use lib.Bits.{bitXor, xor-lt, xor-mod, xor-shr}
+use lib.Bits.{bitXor, xor-lt}
 use lib.ListN.{getD}
-use Rattle.slices.proofs.XorLaws.{xor-swap, xor-shl}
+use Rattle.slices.proofs.XorLaws.{xor-swap}
 use Rattle.crc.specs.Crc.{shiftBit, shiftBits, addByte, crcOf}
 use Rattle.crc.specs.Table.{Remainders}
 use Rattle.crc.proofs.LinearLaws.{add-xor}

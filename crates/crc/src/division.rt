@@ -1,4 +1,4 @@
-// Eight or four bytes added to the register at once, by a division.
+// Bytes added to the register at once, by division of a word by the polynomial.
 ghost use mathlib.Core.Path.{_≡_};
 ghost use Prim.Native.Nat.{_+_, _≤_};
 ghost use lib.ListN.{length, take, drop};
@@ -14,15 +14,6 @@ pub(crate) fn add_eight(register: u16, bytes: &[u8], at: usize) -> u16
     let low = four_at(bytes, at + 4) as u64;
     let word = high * 0x100000000 + low;
     remainder((register as u64) * 0x1000000000000 ^ word)
-}
-
-// The register after the four bytes from the place `at` on.
-pub(crate) fn add_four(register: u16, bytes: &[u8], at: usize) -> u16
-    requires { ⌜ at + 4 ≤ length (now bytes) ⌝ }
-    ensures { λ r. ⌜ r ≡ crcOf register (take 4 (drop at (now (bytes .entry)))) ⌝ }
-{
-    let word = four_at(bytes, at) as u64;
-    remainder((register as u64) * 0x10000 ^ word)
 }
 
 // The four bytes from the place `at` on as a number, high byte first.

@@ -1,11 +1,10 @@
 // The check of document 01: the 16-bit CRC with polynomial 1021 hex, high bit first, nothing
-// inverted, over any start value. Eight, four or two bytes are added at once, and the byte that this
+// inverted, over any start value. Eight bytes are added at once, then two, and the byte that this
 // leaves by a table.
 mod division;
 mod table;
 
 use crate::division::add_eight;
-use crate::division::add_four;
 use crate::division::remainder;
 use crate::table::check_by_table;
 ghost use mathlib.Core.Path.{_≡_};
@@ -24,39 +23,23 @@ pub fn check(start: u16, bytes: &[u8]) -> u16
         register = add_eight(register, bytes, at);
         at += 8;
     }
-    check_by_four(register, &bytes[at..])
+    check_by_two(register, &bytes[at..])
 }
 
-// The same, the first four bytes at once.
-fn check_by_four(start: u16, bytes: &[u8]) -> u16
-    ensures { λ r. ⌜ r ≡ crcOf start (now (bytes .entry)) ⌝ }
-{
-    if bytes.len() < 4 {
-        return check_by_two(start, bytes);
-    }
-    let register = add_four(start, bytes, 0);
-    check_by_two(register, &bytes[4..])
-}
-
-// The same, the first two bytes at once.
+// The same, two bytes at a time. The table is lent only where a byte is left.
 fn check_by_two(start: u16, bytes: &[u8]) -> u16
     ensures { λ r. ⌜ r ≡ crcOf start (now (bytes .entry)) ⌝ }
 {
-    if bytes.len() < 2 {
-        return check_rest(start, bytes);
+    let mut register = start;
+    let mut at: usize = 0;
+    while 2 <= bytes.len() - at {
+        register = check_pair(register, bytes[at], bytes[at + 1]);
+        at += 2;
     }
-    let register = check_pair(start, bytes[0], bytes[1]);
-    check_rest(register, &bytes[2..])
-}
-
-// The same by the table, which is not copied where there is no byte.
-fn check_rest(start: u16, bytes: &[u8]) -> u16
-    ensures { λ r. ⌜ r ≡ crcOf start (now (bytes .entry)) ⌝ }
-{
-    if bytes.len() == 0 {
-        return start;
+    if at == bytes.len() {
+        return register;
     }
-    check_by_table(start, bytes)
+    check_by_table(register, &bytes[at..])
 }
 
 // The CRC of two bytes, as they stand before a payload.

@@ -7,7 +7,7 @@ use borrow.Author.Needs.{needs}
 use lib.ListN.{length, drop}
 use Rattle.slices.proofs.PartLaws.{part-rest}
 use Rattle.crc.specs.Crc.{crcOf}
-use Rattle.crc.proofs.PartLaws.{part-added}
+use Rattle.crc.proofs.StepLaws.{part-added}
 use Rattle.crc.proofs.check.Statement.{statement}
 use Rattle.crc.proofs.check.Tie as tie
 
@@ -38,23 +38,23 @@ loop-again c =
     let bytes = c .before .before .before .before .args .bytes .now in
     (omega arith, rw (c .add-eight .ensures) (part-added bytes (loop .at) 8 (loop .register) ∙ loop .inv .1))
 
-sub-check-by-four : tie.Need-sub-check-by-four Inv-loop μ-loop
-sub-check-by-four c = omega arith
+sub-check-by-two : tie.Need-sub-check-by-two Inv-loop μ-loop
+sub-check-by-two c = omega arith
 
-part-check-by-four-start : tie.Need-part-check-by-four-start Inv-loop μ-loop
-part-check-by-four-start c = omega arith
+part-check-by-two-start : tie.Need-part-check-by-two-start Inv-loop μ-loop
+part-check-by-two-start c = omega arith
 
-part-check-by-four-end : tie.Need-part-check-by-four-end Inv-loop μ-loop
-part-check-by-four-end c = omega arith
+part-check-by-two-end : tie.Need-part-check-by-two-end Inv-loop μ-loop
+part-check-by-two-end c = omega arith
 
-check-by-four-requires : tie.Need-check-by-four-requires Inv-loop μ-loop
-check-by-four-requires c κs = search needs
+check-by-two-requires : tie.Need-check-by-two-requires Inv-loop μ-loop
+check-by-two-requires c κs = search needs
 
 returns : tie.Need-returns Inv-loop μ-loop
 returns c =
     let loop = c .before .before .before .loop in
     let bytes = c .before .before .before .before .before .args .bytes .now in
-    c .check-by-four .ensures ∙ ap (crcOf (loop .register)) (part-rest bytes (loop .at)) ∙ loop .inv .1
+    c .check-by-two .ensures ∙ ap (crcOf (loop .register)) (part-rest bytes (loop .at)) ∙ loop .inv .1
 
 pub check-spec : {M : Type 1} → statement M
 check-spec =
@@ -68,8 +68,8 @@ check-spec =
     add-at
     loop-less
     loop-again
-    sub-check-by-four
-    part-check-by-four-start
-    part-check-by-four-end
-    check-by-four-requires
+    sub-check-by-two
+    part-check-by-two-start
+    part-check-by-two-end
+    check-by-two-requires
     returns)

@@ -5,7 +5,7 @@ use native.Mathlib.Omega.{arith}
 use borrow.Author.Needs.{needs}
 use Rattle.crc.specs.Crc.{crcOf}
 use Rattle.crc.proofs.DivisionLaws.{eight-added}
-use Rattle.crc.proofs.PartLaws.{eight-read, read-bytes}
+use Rattle.crc.proofs.StepLaws.{eight-read, read-bytes}
 use Rattle.crc.proofs.division.add_eight.Statement.{statement}
 use Rattle.crc.proofs.division.add_eight.Tie as tie
 

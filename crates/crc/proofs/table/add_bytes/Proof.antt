@@ -1,15 +1,11 @@
 -- `crc::table::add_bytes` meets its contract. The invariant says what is still to do: the bytes left, from the register as it is, give what
 -- all of them give from the start.
 use mathlib.Core.Path.{_≡_, refl, sym, _∙_}
-use mathlib.Core.List.{List}
-use Prim.Native.Nat.{ℕ, _+_, _-_, _≤_, _<_}
-use native.Mathlib.Numerals.{add-one}
+use Prim.Native.Nat.{_-_, _≤_, _<_}
 use native.Mathlib.Omega.{arith}
-use borrow.Author.Needs.{needs}
-use lib.ListN.{length, drop, getD}
-use lib.Seq.{drop-cons}
-use Rattle.crc.specs.Crc.{addByte, crcOf}
-use Rattle.crc.proofs.CrcLaws.{all-added}
+use lib.ListN.{length, drop}
+use Rattle.crc.specs.Crc.{crcOf}
+use Rattle.crc.proofs.CrcLaws.{all-added, byte-added}
 use Rattle.crc.proofs.table.add_bytes.Statement.{statement}
 use Rattle.crc.proofs.table.add_bytes.Tie as tie
 
@@ -18,11 +14,6 @@ Inv-loop table start bytes register₀ i₀ register i = (i ≤ length bytes) ×
 
 abbrev μ-loop : tie.MeasureT-loop
 μ-loop table start bytes register₀ i₀ register i = length bytes - i
-
--- one byte less to add
-add-one-byte : (r : ℕ) (s : List ℕ) (i : ℕ) → i < length s → crcOf (addByte r (getD s i 0)) (drop (i + 1) s) ≡ crcOf r (drop i s)
-unfolding crcOf
-add-one-byte r s i h = rw (add-one, drop-cons s i 0 h)
 
 loop-holds : tie.Need-loop-holds Inv-loop μ-loop
 loop-holds c = (omega arith, refl)
@@ -44,7 +35,7 @@ loop-again c =
     let loop = c .before .before .before .loop in
     let bytes = c .before .before .before .before .before .args .bytes .now in
     let more : loop .i < length bytes = omega arith in
-    (omega arith, rw (c .add-byte .ensures) (add-one-byte (loop .register) bytes (loop .i) more ∙ loop .inv .1))
+    (omega arith, rw (c .add-byte .ensures) (byte-added (loop .register) bytes (loop .i) more ∙ loop .inv .1))
 
 returns : tie.Need-returns Inv-loop μ-loop
 returns c =

@@ -44,7 +44,7 @@ void workloads_make(struct workload workloads[WORKLOADS])
 
 void crc_workloads_make(struct workload workloads[CRC_WORKLOADS])
 {
-    static const size_t lengths[CRC_WORKLOADS] = {0, 4, 14, 64, ARZNAVIK_PAYLOAD_MAX};
+    static const size_t lengths[CRC_WORKLOADS] = {0, 4, 14, 15, 64, ARZNAVIK_PAYLOAD_MAX};
     for (size_t i = 0; i < CRC_WORKLOADS; i++)
         fill(&workloads[i], 0, lengths[i]);
 }

@@ -18,12 +18,12 @@ struct workload {
 };
 
 #define WORKLOADS 7
-#define CRC_WORKLOADS 5
+#define CRC_WORKLOADS 6
 
 /* Payloads of 0, 14, 64 and 383 bytes, plain and escaped; 0 bytes have one kind. */
 void workloads_make(struct workload workloads[WORKLOADS]);
 
-/* Plain payloads of 0, 4, 14, 64 and 383 bytes, for the crc. */
+/* Plain payloads of 0, 4, 14, 15, 64 and 383 bytes, for the crc. */
 void crc_workloads_make(struct workload workloads[CRC_WORKLOADS]);
 
 /* The longest payload, and with it the longest run of bytes that the frame check looks at: pairs

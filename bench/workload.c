@@ -34,17 +34,18 @@ static void fill(struct workload *workload, int escaped, size_t length)
 
 void workloads_make(struct workload workloads[WORKLOADS])
 {
-    static const size_t lengths[] = {14, 64, ARZNAVIK_PAYLOAD_MAX};
-    fill(&workloads[0], 0, 0);
-    for (size_t i = 0; i < 3; i++) {
-        fill(&workloads[1 + i], 0, lengths[i]);
-        fill(&workloads[4 + i], 1, lengths[i]);
-    }
+    static const size_t plain[PLAIN_WORKLOADS] = {0, 1, 14, 15, 64, ARZNAVIK_PAYLOAD_MAX};
+    static const size_t escaped[ESCAPED_WORKLOADS] = {14, 64, ARZNAVIK_PAYLOAD_MAX};
+    for (size_t i = 0; i < PLAIN_WORKLOADS; i++)
+        fill(&workloads[i], 0, plain[i]);
+    for (size_t i = 0; i < ESCAPED_WORKLOADS; i++)
+        fill(&workloads[PLAIN_WORKLOADS + i], 1, escaped[i]);
 }
 
 void crc_workloads_make(struct workload workloads[CRC_WORKLOADS])
 {
-    static const size_t lengths[CRC_WORKLOADS] = {0, 4, 14, 15, 64, ARZNAVIK_PAYLOAD_MAX};
+    static const size_t lengths[CRC_WORKLOADS] = {0,  1,  4,  7,
+                                                  14, 15, 64, ARZNAVIK_PAYLOAD_MAX};
     for (size_t i = 0; i < CRC_WORKLOADS; i++)
         fill(&workloads[i], 0, lengths[i]);
 }

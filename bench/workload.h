@@ -17,13 +17,15 @@ struct workload {
     uint8_t frame[WORKLOAD_FRAME_MAX];
 };
 
-#define WORKLOADS 7
-#define CRC_WORKLOADS 6
+#define PLAIN_WORKLOADS 6
+#define ESCAPED_WORKLOADS 3
+#define WORKLOADS (PLAIN_WORKLOADS + ESCAPED_WORKLOADS)
+#define CRC_WORKLOADS 8
 
-/* Payloads of 0, 14, 64 and 383 bytes, plain and escaped; 0 bytes have one kind. */
+/* Payloads of 0, 1, 14, 15, 64 and 383 bytes, plain, and of 14, 64 and 383, escaped. */
 void workloads_make(struct workload workloads[WORKLOADS]);
 
-/* Plain payloads of 0, 4, 14, 15, 64 and 383 bytes, for the crc. */
+/* Plain payloads of 0, 1, 4, 7, 14, 15, 64 and 383 bytes, for the crc. */
 void crc_workloads_make(struct workload workloads[CRC_WORKLOADS]);
 
 /* The longest payload, and with it the longest run of bytes that the frame check looks at: pairs

@@ -113,8 +113,8 @@ fn unlike(length: usize) -> Vec<u8> {
     (0..length).map(|place| (place * 167 + 13) as u8).collect()
 }
 
-/// Each byte at each place of eleven. If the check takes eight bytes at a time, four of these go
-/// with the header's four, and seven are left over.
+/// Each byte at each place of eleven: a check that takes eight bytes at a time, or eight and then
+/// two, has some of each.
 fn every_payload_byte() -> impl Iterator<Item = Case> {
     (0..11).flat_map(|place| {
         (0..=255).flat_map(move |byte| {

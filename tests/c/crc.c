@@ -15,7 +15,8 @@
 #include <string.h>
 #include <sys/mman.h>
 
-#define PAGE 4096
+/* More than a frame, and a multiple of the page of the systems that this is built for. */
+#define PAGE 65536
 #define STRING_MAX 48
 
 /* Three pages, of which only the middle one has access. */

@@ -1,5 +1,5 @@
-//! Inputs that go through every value of something. A check may take eight bytes in one step and
-//! the bytes left over by a table, so the strings have every length around 8 and 16.
+//! Inputs that go through every value of something. A check may take eight bytes in one step, or
+//! two, and the bytes left over by a table, so the strings have every length around 2, 8 and 16.
 
 use crate::frame::{check, enclose, stuff};
 use crate::inputs::{between_flags, CheckInput, CrcInput, WriteInput};
@@ -33,7 +33,7 @@ pub fn every_byte() -> impl Iterator<Item = CrcInput> {
 /// Each start value before no byte, before one, and before strings of about 8 and 16.
 pub fn every_start() -> impl Iterator<Item = CrcInput> {
     let mut strings: Vec<Vec<u8>> = [0x00, 0x01, 0x7e, 0x80, 0xff].map(|b| vec![b]).into();
-    strings.extend([0, 7, 8, 9, 16, 17].map(unlike));
+    strings.extend([0, 2, 7, 8, 9, 16, 17].map(unlike));
     strings.into_iter().flat_map(|bytes| {
         (0..=0xffff).map(move |start| CrcInput {
             start,

@@ -1,6 +1,6 @@
--- The two laws of 02, C-24, over calls of `crc::check`, and the sentence of C-15 over calls of the tabled loop, by the contracts that the
--- toolchain reads off the source (`Learnt`): a contract that says less breaks them. They hold for each start value and
--- for strings of any length, empty ones too.
+-- What 02 promises of calls of the check, by the contracts that the toolchain reads off the source (`Learnt`): the two laws of C-24 and the
+-- sentence of C-15 on the tabled check. A contract that says less breaks them. They hold for each start value and for strings of any length,
+-- empty ones too.
 use mathlib.Core.Path.{_≡_, refl, sym, ap, ap₂, _∙_}
 use mathlib.Core.List.{List, _++_}
 use Prim.Native.Nat.{ℕ}
@@ -44,9 +44,10 @@ all-bytes-are-checked start bytes = in-call tt refl
 abbrev pub ChecksByTable : (start : ℕ) (bytes : List ℕ) (answer : ℕ) → Type 0
 ChecksByTable start = InCall table.Asked table.Learnt (λ bytes. (start, (bytes, tt)))
 
--- THEOREM (02, C-15). The tabled check equals the bitwise one, `crcOf`, and so what `crc::check` answers.
+-- THEOREM (02, C-15). The tabled check equals the bitwise one, `crcOf`.
 pub tabled : (start : ℕ) (bytes : List ℕ) (answer : ℕ) → ChecksByTable start bytes answer → answer ≡ crcOf start bytes
 tabled start bytes answer call = rw (call .input-lent .holds) at (call .learnt)
 
+-- There is such a call for each start value and all bytes.
 pub all-bytes-are-tabled : (start : ℕ) (bytes : List ℕ) → ChecksByTable start bytes (crcOf start bytes)
 all-bytes-are-tabled start bytes = in-call tt refl

@@ -7,9 +7,9 @@ use native.Mathlib.Numerals.{add-one}
 use native.Mathlib.Omega.{arith}
 use native.Mathlib.Nat.{mul-assoc, pow-succ', le-mul-of-pos-right, zero-add}
 use lib.Bits.{bitXor, xor-block, xor-self, xor-zero-r}
-use lib.ListN.{length, drop, getD, drop-of-length-le}
+use lib.ListN.{length, take, drop, getD, drop-of-length-le, take-append-drop}
 use lib.Pow.{pow-pos}
-use lib.Seq.{drop-cons}
+use lib.Seq.{drop-cons, drop-drop}
 use borrow.Author.Tests.{ne-eqb}
 use Rattle.crc.specs.Crc.{shiftBit, shiftBits, addByte, crcOf, checkBytes}
 
@@ -23,6 +23,12 @@ crc-append r (b ∷ bs) ys = crc-append (addByte r b) bs ys
 pub byte-added : (r : ℕ) (s : List ℕ) (i : ℕ) → i < length s → crcOf (addByte r (getD s i 0)) (drop (i + 1) s) ≡ crcOf r (drop i s)
 unfolding crcOf
 byte-added r s i h = rw (add-one, drop-cons s i 0 h)
+
+-- n bytes less to add
+pub part-added : (s : List ℕ) (i n r : ℕ) → crcOf (crcOf r (take n (drop i s))) (drop (i + n) s) ≡ crcOf r (drop i s)
+part-added s i n r =
+    ap (crcOf (crcOf r (take n (drop i s)))) (sym (drop-drop n i s))
+    ∙ sym (crc-append r (take n (drop i s)) (drop n (drop i s))) ∙ ap (crcOf r) (take-append-drop n (drop i s))
 
 -- nothing is left to add
 pub all-added : (r : ℕ) (s : List ℕ) (i : ℕ) → length s ≤ i → crcOf r (drop i s) ≡ r

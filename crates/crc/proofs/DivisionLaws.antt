@@ -1,5 +1,5 @@
--- Eight or two bytes added to the register at once. Both what the code does and the check are linear (02, C-24), so they are tried on each
--- single bit of the register and of the bytes.
+-- Eight or two bytes added to the register at once. Both what the code does and the check are linear (02, C-24), so for each of the two steps
+-- one test, of each single bit of the register and of the bytes, is computed.
 use mathlib.Core.Path.{_≡_, refl, sym, ap, _∙_}
 use Prim.Native.Nat.{ℕ, _*_, _/_, _%_, _^_, _<_}
 use lib.Bits.{bitXor}
@@ -8,7 +8,7 @@ use Rattle.slices.proofs.HighFirstLaws.{high-length}
 use Rattle.slices.proofs.XorStrings.{high-xor}
 use Rattle.crc.specs.Crc.{shiftBit, shiftBits, addByte, crcOf}
 use Rattle.crc.proofs.LinearLaws.{crc-xor}
-use Rattle.crc.proofs.SingleBits.{Linear, Linear₂, linear-added, linear-down, linear-low, linear-self, linear-sum, linear-then, linear-up, bits-enough, agree}
+use Rattle.crc.proofs.SingleBits.{Linear, Linear₂, linear-added, linear-down, linear-low, linear-self, linear-sum, linear-then, linear-up, agree}
 
 -- the check of a number's bytes, in the register and the number
 abbrev pub checked : ℕ → ℕ → ℕ → ℕ
@@ -19,8 +19,8 @@ checked-linear count q r a b =
     ap (crcOf (bitXor q r)) (high-xor count a b)
     ∙ crc-xor q r (highFirst count a) (highFirst count b) (high-length count a ∙ sym (high-length count b))
 
--- what the code does to a word: u moves down by 4, 11 and 16 places, its square by twice, its fourth power by four times and its eighth by eight
--- times as many, as far as a word has them; the quotient is multiplied with the polynomial, and the low 16 bits stay
+-- what the code does to a word: the factors 1 + u, 1 + u^2, 1 + u^4 and 1 + u^8, as far as a word has their places; then the quotient is
+-- multiplied with the polynomial, and the low 16 bits stay
 abbrev once : ℕ → ℕ
 once x = bitXor (bitXor (bitXor x (x / 2 ^ 4)) (x / 2 ^ 11)) (x / 2 ^ 16)
 
@@ -36,7 +36,7 @@ eightTimes x = bitXor x (x / 2 ^ 32)
 abbrev timesPolynomial : ℕ → ℕ
 timesPolynomial x = bitXor (bitXor x (x * 2 ^ 5)) (x * 2 ^ 12)
 
-abbrev pub remainderOf : ℕ → ℕ
+abbrev remainderOf : ℕ → ℕ
 remainderOf w = timesPolynomial (eightTimes (fourTimes (twice (once w))) % 2 ^ 16) % 2 ^ 16
 
 -- one more move added
@@ -61,25 +61,19 @@ remainder-linear =
     (linear-then (λ x. x % 2 ^ 16) (λ x. timesPolynomial x % 2 ^ 16) (linear-low 16)
     (linear-then timesPolynomial (λ x. x % 2 ^ 16) times-linear (linear-low 16))))))
 
--- the whole division, tried on each bit of a word
-pub divided : (w : ℕ) → w < 2 ^ 64 → remainderOf w ≡ crcOf 0 (highFirst 8 w)
+-- eight bytes: the register stands before the first two
+abbrev addedWord : ℕ → ℕ → ℕ
+addedWord r w = remainderOf (bitXor (r * 2 ^ 48) w)
+
+pub word-added : (r w : ℕ) → r < 2 ^ 16 → w < 2 ^ 64 → addedWord r w ≡ checked 8 r w
 unfolding crcOf addByte shiftBits shiftBit
-divided = bits-enough remainderOf (checked 8 0) remainder-linear (checked-linear 8 0 0) 64 refl
+word-added =
+    agree addedWord (checked 8) (linear-added remainderOf (λ r. r * 2 ^ 48) remainder-linear (linear-up 48)) (checked-linear 8) 64 refl
 
--- a register is moved up and added to the first two of some bytes, which are the last ones of a word
-abbrev up : ℕ → ℕ → ℕ
-up places r = r * 2 ^ places
+-- two bytes with the register added to them, as the last two of a word behind the register 0
+abbrev addedPair : ℕ → ℕ → ℕ
+addedPair r w = checked 8 0 (bitXor r w)
 
-abbrev onto : (ℕ → ℕ) → ℕ → ℕ → ℕ
-onto moved r w = checked 8 0 (bitXor (moved r) w)
-
-onto-linear : (moved : ℕ → ℕ) → Linear moved → Linear₂ (onto moved)
-onto-linear moved = linear-added (checked 8 0) moved (checked-linear 8 0 0)
-
-pub eight-added : (r w : ℕ) → r < 2 ^ 16 → w < 2 ^ 64 → onto (up 48) r w ≡ checked 8 r w
+pub pair-added : (r w : ℕ) → r < 2 ^ 16 → w < 2 ^ 16 → addedPair r w ≡ checked 2 r w
 unfolding crcOf addByte shiftBits shiftBit
-eight-added = agree (onto (up 48)) (checked 8) (onto-linear (up 48) (linear-up 48)) (checked-linear 8) 64 refl refl
-
-pub two-added : (r w : ℕ) → r < 2 ^ 16 → w < 2 ^ 16 → onto (λ x. x) r w ≡ checked 2 r w
-unfolding crcOf addByte shiftBits shiftBit
-two-added = agree (onto (λ x. x)) (checked 2) (onto-linear (λ x. x) linear-self) (checked-linear 2) 16 refl refl
+pair-added = agree addedPair (checked 2) (linear-added (checked 8 0) (λ r. r) (checked-linear 8 0 0) linear-self) (checked-linear 2) 16 refl

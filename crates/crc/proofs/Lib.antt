@@ -2,7 +2,7 @@ pub mod CheckCalls
 pub mod CrcLaws
 pub mod DivisionLaws
 pub mod LinearLaws
+pub mod ReadBytes
 pub mod SingleBits
-pub mod StepLaws
 pub mod TableLaws
 pub mod Values

@@ -36,11 +36,7 @@ linear-up places a b = sym (xor-shl places a b)
 at-zero : (f : ℕ → ℕ) → Linear f → f 0 ≡ 0
 at-zero f p = p 0 0 ∙ xor-self (f 0)
 
--- f at each single bit of a number below 2 ^ n
-abbrev pub atBits : (f : ℕ → ℕ) (n : ℕ) → List ℕ
-atBits f = values (λ bit. f (2 ^ bit))
-
--- such a number is the exclusive-or of single bits
+-- a number below 2 ^ n is the exclusive-or of single bits
 by-bits : (f g : ℕ → ℕ) → Linear f → Linear g → (n : ℕ) → ((bit : ℕ) → bit < n → f (2 ^ bit) ≡ g (2 ^ bit)) → (w : ℕ) → w < 2 ^ n → f w ≡ g w
 by-bits f g p q zero same w h =
     let none : w ≡ 0 = omega arith in
@@ -59,10 +55,6 @@ by-bits f g p q (suc n) same w h =
     top (suc zero) k = rw (one-mul (2 ^ n)) (same n (omega arith))
     top (suc (suc more)) k = absurd (omega arith)
 
--- tried on each bit
-pub bits-enough : (f g : ℕ → ℕ) → Linear f → Linear g → (n : ℕ) → atBits f n ≡ atBits g n → (w : ℕ) → w < 2 ^ n → f w ≡ g w
-bits-enough f g p q n same = by-bits f g p q n (same-values (λ bit. f (2 ^ bit)) (λ bit. g (2 ^ bit)) n same)
-
 -- linear in a register and in a number of bytes at once
 abbrev pub Linear₂ : (ℕ → ℕ → ℕ) → Type 0
 Linear₂ f = (q r a b : ℕ) → f (bitXor q r) (bitXor a b) ≡ bitXor (f q a) (f r b)
@@ -72,15 +64,20 @@ pub linear-added : (f g : ℕ → ℕ) → Linear f → Linear g → Linear₂ (
 linear-added f g p q r s a b =
     ap f (ap (λ (x : ℕ). bitXor x (bitXor a b)) (q r s) ∙ xor-swap (g r) (g s) a b) ∙ p (bitXor (g r) a) (bitXor (g s) b)
 
--- tried on each bit of the register alone and of the number alone
-pub agree : (f g : ℕ → ℕ → ℕ) → Linear₂ f → Linear₂ g → (n : ℕ)
-    → atBits (λ register. f register 0) 16 ≡ atBits (λ register. g register 0) 16 → atBits (f 0) n ≡ atBits (g 0) n
-    → (r w : ℕ) → r < 2 ^ 16 → w < 2 ^ n → f r w ≡ g r w
-agree f g p q n of-register of-number r w small short =
+-- f at each single bit of a register and at each single bit of a number below 2 ^ n
+abbrev pub atBits : (f : ℕ → ℕ → ℕ) (n : ℕ) → List ℕ × List ℕ
+atBits f n = (values (λ bit. f (2 ^ bit) 0) 16, values (λ bit. f 0 (2 ^ bit)) n)
+
+pub agree : (f g : ℕ → ℕ → ℕ) → Linear₂ f → Linear₂ g → (n : ℕ) → atBits f n ≡ atBits g n → (r w : ℕ) → r < 2 ^ 16 → w < 2 ^ n → f r w ≡ g r w
+agree f g p q n same r w small short =
     sym (ap₂ f (xor-zero-r r) (xor-zero-l w)) ∙ p r 0 0 w ∙ ap₂ bitXor register number ∙ sym (q r 0 0 w) ∙ ap₂ g (xor-zero-r r) (xor-zero-l w)
   where
     register : f r 0 ≡ g r 0
-    register = bits-enough (λ x. f x 0) (λ x. g x 0) (λ a b. p a b 0 0) (λ a b. q a b 0 0) 16 of-register r small
+    register =
+        by-bits (λ x. f x 0) (λ x. g x 0) (λ a b. p a b 0 0) (λ a b. q a b 0 0) 16
+        (same-values (λ bit. f (2 ^ bit) 0) (λ bit. g (2 ^ bit) 0) 16 (ap (λ lists. lists .0) same)) r small
 
     number : f 0 w ≡ g 0 w
-    number = bits-enough (f 0) (g 0) (p 0 0) (q 0 0) n of-number w short
+    number =
+        by-bits (f 0) (g 0) (p 0 0) (q 0 0) n
+        (same-values (λ bit. f 0 (2 ^ bit)) (λ bit. g 0 (2 ^ bit)) n (ap (λ lists. lists .1) same)) w short

@@ -27,22 +27,22 @@ fallen r b = addByte 0 (index r b)
 abbrev moved : ℕ → ℕ
 moved r = r % 0x100 * 0x100
 
-abbrev tabled : ℕ → ℕ → ℕ
-tabled r b = bitXor (fallen r b) (moved r)
+abbrev byTable : ℕ → ℕ → ℕ
+byTable r b = bitXor (fallen r b) (moved r)
 
-tabled-linear : Linear₂ tabled
-tabled-linear q r a b =
+by-table-linear : Linear₂ byTable
+by-table-linear q r a b =
     ap₂ bitXor (linear-added (addByte 0) (λ x. x / 0x100) (add-xor 0 0) (linear-down 8) q r a b)
     (linear-then (λ x. x % 0x100) (λ x. x * 0x100) (linear-low 8) (linear-up 8) q r)
     ∙ xor-swap (fallen q a) (fallen r b) (moved q) (moved r)
 
-tabled-adds : (r b : ℕ) → r < 0x10000 → b < 0x100 → tabled r b ≡ addByte r b
+by-table-adds : (r b : ℕ) → r < 0x10000 → b < 0x100 → byTable r b ≡ addByte r b
 unfolding addByte shiftBits shiftBit
-tabled-adds = agree tabled addByte tabled-linear add-xor 8 refl refl
+by-table-adds = agree byTable addByte by-table-linear add-xor 8 refl
 
 -- one byte by the table
 pub byte-by-table : (table : List ℕ) (r b : ℕ) → Remainders table → r < 0x10000 → b < 0x100
     → bitXor (getD table (index r b) 0) (moved r) ≡ addByte r b
 unfolding crcOf
 byte-by-table table r b rule register byte =
-    ap (λ (entry : ℕ). bitXor entry (moved r)) (rule (index r b) (xor-lt 8 (r / 0x100) b (omega arith) byte)) ∙ tabled-adds r b register byte
+    ap (λ (entry : ℕ). bitXor entry (moved r)) (rule (index r b) (xor-lt 8 (r / 0x100) b (omega arith) byte)) ∙ by-table-adds r b register byte

@@ -5,7 +5,7 @@ mod division;
 mod table;
 
 use crate::division::add_eight;
-use crate::division::remainder;
+use crate::division::add_word;
 use crate::table::check_by_table;
 ghost use mathlib.Core.Path.{_≡_};
 ghost use mathlib.Core.List.{[], _∷_};
@@ -42,10 +42,10 @@ fn check_by_two(start: u16, bytes: &[u8]) -> u16
     check_by_table(register, &bytes[at..])
 }
 
-// The CRC of two bytes, as they stand before a payload.
+// The CRC of two bytes.
 pub fn check_pair(start: u16, first: u8, second: u8) -> u16
     ensures { λ r. ⌜ r ≡ crcOf start (first ∷ second ∷ []) ⌝ }
 {
     let word = start ^ slices::pair(first, second);
-    remainder(word as u64)
+    add_word(0, word as u64)
 }

@@ -25,7 +25,8 @@ pub high-length : (count number : ℕ) → length (highFirst count number) ≡ c
 high-length zero number = refl
 high-length (suc zero) number = refl
 high-length (suc (suc more)) number =
-    length-append (highFirst (suc more) (number / 256)) (number % 256 ∷ []) ∙ add-one (length (highFirst (suc more) (number / 256))) ∙ ap suc (high-length (suc more) (number / 256))
+    length-append (highFirst (suc more) (number / 256)) (number % 256 ∷ []) ∙ add-one (length (highFirst (suc more) (number / 256)))
+    ∙ ap suc (high-length (suc more) (number / 256))
 
 -- one byte more behind a number in one byte or more
 high-last : (more number byte : ℕ) → byte < 256 → highFirst (suc (suc more)) (number * 256 + byte) ≡ highFirst (suc more) number ++ (byte ∷ [])

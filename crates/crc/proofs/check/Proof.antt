@@ -7,7 +7,7 @@ use borrow.Author.Needs.{needs}
 use lib.ListN.{length, drop}
 use Rattle.slices.proofs.PartLaws.{part-rest}
 use Rattle.crc.specs.Crc.{crcOf}
-use Rattle.crc.proofs.StepLaws.{part-added}
+use Rattle.crc.proofs.CrcLaws.{part-added}
 use Rattle.crc.proofs.check.Statement.{statement}
 use Rattle.crc.proofs.check.Tie as tie
 

@@ -7,8 +7,8 @@ use borrow.Author.Needs.{needs}
 use lib.ListN.{length, take, drop}
 use Rattle.slices.proofs.PartLaws.{part-rest}
 use Rattle.crc.specs.Crc.{crcOf}
-use Rattle.crc.proofs.CrcLaws.{all-added}
-use Rattle.crc.proofs.StepLaws.{two, part-added}
+use Rattle.crc.proofs.CrcLaws.{all-added, part-added}
+use Rattle.crc.proofs.ReadBytes.{two}
 use Rattle.crc.proofs.check_by_two.Statement.{statement}
 use Rattle.crc.proofs.check_by_two.Tie as tie
 

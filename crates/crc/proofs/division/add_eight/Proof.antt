@@ -4,8 +4,7 @@ use Prim.Native.Nat.{_+_, _*_}
 use native.Mathlib.Omega.{arith}
 use borrow.Author.Needs.{needs}
 use Rattle.crc.specs.Crc.{crcOf}
-use Rattle.crc.proofs.DivisionLaws.{eight-added}
-use Rattle.crc.proofs.StepLaws.{eight-read, read-bytes}
+use Rattle.crc.proofs.ReadBytes.{eight-read, read-bytes}
 use Rattle.crc.proofs.division.add_eight.Statement.{statement}
 use Rattle.crc.proofs.division.add_eight.Tie as tie
 
@@ -24,17 +23,14 @@ four-at-requires-2 c κs = search needs
 cast-low : tie.Need-cast-low
 cast-low c = search needs
 
-mul-word : tie.Need-mul-word
-mul-word c = search needs
+mul-add-word : tie.Need-mul-add-word
+mul-add-word c = search needs
 
-add-word : tie.Need-add-word
-add-word c = search needs
+add-add-word : tie.Need-add-add-word
+add-add-word c = search needs
 
-mul-remainder : tie.Need-mul-remainder
-mul-remainder c = search needs
-
-remainder-requires : tie.Need-remainder-requires
-remainder-requires c κs = search needs
+add-word-requires : tie.Need-add-word-requires
+add-word-requires c κs = search needs
 
 returns : tie.Need-returns
 returns c =
@@ -44,7 +40,7 @@ returns c =
     let word = high .result * 0x100000000 + low .result in
     let read = eight-read (args .bytes .now) (args .at) (high .result) (low .result) (omega arith) (high .ensures) (low .ensures) in
     let small = c .before .before .before .shared-slice-known .given in
-    c .remainder .ensures ∙ eight-added (args .register) word (omega arith) (omega arith)
+    c .add-word .ensures
     ∙ ap (crcOf (args .register)) (read-bytes (args .bytes .now) (args .at) 7 word (λ k. small k .fits) (omega arith) read)
 
 pub add-eight-spec : {M : Type 1} → statement M
@@ -56,8 +52,7 @@ add-eight-spec =
     add-four-at
     four-at-requires-2
     cast-low
-    mul-word
-    add-word
-    mul-remainder
-    remainder-requires
+    mul-add-word
+    add-add-word
+    add-word-requires
     returns)

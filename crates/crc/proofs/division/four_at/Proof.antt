@@ -1,7 +1,7 @@
 -- `crc::division::four_at` meets its contract.
 use native.Mathlib.Omega.{arith}
 use borrow.Author.Needs.{needs}
-use Rattle.crc.proofs.StepLaws.{four-read}
+use Rattle.crc.proofs.ReadBytes.{four-read}
 use Rattle.crc.proofs.division.four_at.Statement.{statement}
 use Rattle.crc.proofs.division.four_at.Tie as tie
 

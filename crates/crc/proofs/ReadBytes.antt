@@ -1,15 +1,13 @@
--- Some bytes of a string as a number, and the string behind them.
+-- Some bytes of a string, from a place on, as a number.
 use mathlib.Core.Path.{_≡_, sym, ap, ap₂, _∙_}
 use mathlib.Core.List.{List, [], _∷_, _++_}
 use Prim.Native.Nat.{ℕ, suc, _+_, _*_, _≤_, _<_}
 use native.Mathlib.Numerals.{add-one}
 use native.Mathlib.Omega.{arith}
-use lib.ListN.{length, take, drop, getD, take-append-drop, length-drop}
+use lib.ListN.{length, take, drop, getD, length-drop}
 use lib.Seq.{drop-cons, drop-drop, getD-drop, getD-take, length-take-le, take-add}
 use Rattle.slices.specs.HighFirst.{wordOf, pairOf, highFirst}
 use Rattle.slices.proofs.HighFirstLaws.{bytes-back}
-use Rattle.crc.specs.Crc.{crcOf}
-use Rattle.crc.proofs.CrcLaws.{crc-append}
 
 -- the first of some bytes from a place on
 next : (s : List ℕ) (i j : ℕ) (more : ℕ) → i + 1 ≡ j → i < length s → take (suc more) (drop i s) ≡ getD s i 0 ∷ take more (drop j s)
@@ -54,9 +52,3 @@ module _ (s : List ℕ) (i : ℕ) where
 
       size : length (take (suc more) (drop i s)) ≡ suc more
       size = length-take-le (suc more) (drop i s) (rw length-drop (omega arith))
-
-  -- some bytes added, and then those behind them
-  pub part-added : (n r : ℕ) → crcOf (crcOf r (take n (drop i s))) (drop (i + n) s) ≡ crcOf r (drop i s)
-  part-added n r =
-      ap (crcOf (crcOf r (take n (drop i s)))) (sym (drop-drop n i s))
-      ∙ sym (crc-append r (take n (drop i s)) (drop n (drop i s))) ∙ ap (crcOf r) (take-append-drop n (drop i s))

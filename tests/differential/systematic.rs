@@ -30,7 +30,7 @@ pub fn every_byte() -> impl Iterator<Item = CrcInput> {
     })
 }
 
-/// Each start value before no byte, before one, and before strings of about 8 and 16.
+/// Each start value before no byte, before one or two, and before strings of about 8 and 16.
 pub fn every_start() -> impl Iterator<Item = CrcInput> {
     let mut strings: Vec<Vec<u8>> = [0x00, 0x01, 0x7e, 0x80, 0xff].map(|b| vec![b]).into();
     strings.extend([0, 2, 7, 8, 9, 16, 17].map(unlike));

@@ -6,9 +6,13 @@ use mathlib.Core.List.{List, _++_}
 use Prim.Native.Nat.{ℕ}
 use lib.Bits.{bitXor}
 use lib.ListN.{length}
+use Rattle.slices.specs.Bits.{Bytes}
+use Rattle.slices.specs.Difference.{DifferWithin}
 use Rattle.slices.specs.ExclusiveOr.{xorOf}
 use Rattle.slices.proofs.Lent.{InCall, in-call}
+use Rattle.crc.specs.Burst.{Burst}
 use Rattle.crc.specs.Crc.{crcOf}
+use Rattle.crc.proofs.BurstLaws.{burst-seen, pair-burst}
 use Rattle.crc.proofs.CrcLaws.{crc-append}
 use Rattle.crc.proofs.LinearLaws.{crc-three}
 use Rattle.crc.proofs.check.Reads as check
@@ -39,6 +43,15 @@ exclusive-or start xs ys zs first second third all two three of-first of-second 
 -- There is such a call for each start value and all bytes, since the contract asks nothing.
 pub all-bytes-are-checked : (start : ℕ) (bytes : List ℕ) → Checks start bytes (crcOf start bytes)
 all-bytes-are-checked start bytes = in-call tt refl
+
+-- THEOREM (02, C-19). Two contents of equal length that differ, and only within 16 adjacent bits, high bit first, do not both pass the check.
+-- They may have any length, and the bits may stand anywhere, among the check bytes too.
+pub burst : (start : ℕ) (xs ys : List ℕ) → Burst xs ys → Checks start xs 0 → Checks start ys 0 → ⊥
+burst start xs ys b of-first of-second = burst-seen start xs ys b (sym (was-checked of-first) ∙ was-checked of-second)
+
+-- THEOREM (02, C-19). Nor do two that differ in one byte alone or in two neighbouring ones.
+pub neighbouring-bytes : (start : ℕ) (xs ys : List ℕ) → Bytes xs → Bytes ys → DifferWithin 2 xs ys → Checks start xs 0 → Checks start ys 0 → ⊥
+neighbouring-bytes start xs ys first-bytes second-bytes d = burst start xs ys (pair-burst xs ys first-bytes second-bytes d)
 
 -- a call of the tabled loop
 abbrev pub ChecksByTable : (start : ℕ) (bytes : List ℕ) (answer : ℕ) → Type 0

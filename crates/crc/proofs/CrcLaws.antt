@@ -36,7 +36,7 @@ unfolding crcOf
 all-added r s i h = rw (drop-of-length-le s h)
 
 -- where no 1 falls out, a bit doubles the register
-shift-low : (x : ℕ) → x < 0x8000 → shiftBit x ≡ x * 2
+pub shift-low : (x : ℕ) → x < 0x8000 → shiftBit x ≡ x * 2
 unfolding shiftBit
 shift-low x h =
     let fallen : x / 0x8000 % 2 ≡ 1 → ⊥ = λ e. omega arith in

@@ -1,3 +1,5 @@
+pub mod BitByBit
+pub mod BurstLaws
 pub mod CheckCalls
 pub mod CrcLaws
 pub mod DivisionLaws

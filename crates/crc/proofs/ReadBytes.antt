@@ -6,6 +6,7 @@ use native.Mathlib.Numerals.{add-one}
 use native.Mathlib.Omega.{arith}
 use lib.ListN.{length, take, drop, getD, length-drop}
 use lib.Seq.{drop-cons, drop-drop, getD-drop, getD-take, length-take-le, take-add}
+use Rattle.slices.specs.Bits.{Bytes}
 use Rattle.slices.specs.HighFirst.{wordOf, pairOf, highFirst}
 use Rattle.slices.proofs.HighFirstLaws.{bytes-back}
 
@@ -41,7 +42,7 @@ module _ (s : List ℕ) (i : ℕ) where
       rw (halves, e, f, first, second) (omega arith)
 
   -- the number of some bytes has them as its bytes
-  pub read-bytes : (more number : ℕ) → ((k : ℕ) → getD s k 0 < 256) → i + suc more ≤ length s → number ≡ wordOf (take (suc more) (drop i s))
+  pub read-bytes : (more number : ℕ) → Bytes s → i + suc more ≤ length s → number ≡ wordOf (take (suc more) (drop i s))
       → highFirst (suc more) number ≡ take (suc more) (drop i s)
   read-bytes more number small h e =
       ap₂ highFirst (sym size) e

@@ -12,14 +12,22 @@ use Rattle.slices.proofs.Impossible.{impossible}
 use Rattle.frame.specs.Stuffing.{State, plain, escaped, Meaning, escapes-next, stands-for, faulty, meaning, Unstuffed, content, refused, joined, taken, contentMax, unstuffFrom}
 
 -- content with a byte in front comes from content behind it
-record Joined (v : ℕ) (found : Unstuffed) (c : List ℕ) : Type 0 where
-  rest : List ℕ
-  is : found ≡ content rest
-  whole : c ≡ v ∷ rest
+pub record Joined (v : ℕ) (found : Unstuffed) (c : List ℕ) : Type 0 where
+  pub rest : List ℕ
+  pub is : found ≡ content rest
+  pub whole : c ≡ v ∷ rest
 
-joined-content : (v : ℕ) (found : Unstuffed) (c : List ℕ) → joined v found ≡ content c → Joined v found c
+pub joined-content : (v : ℕ) (found : Unstuffed) (c : List ℕ) → joined v found ≡ content c → Joined v found c
 joined-content v (content d) c e = record { rest = d; is = refl; whole = let same : c ≡ v ∷ d = cc in same }
 joined-content v (refused n) c e = impossible cc
+
+-- a byte of content stands first in the content that is unstuffed
+pub stood-for : (v held : ℕ) (rest : State → ℕ → Unstuffed) (c : List ℕ) → taken (stands-for v) held rest ≡ content c → Joined v (rest plain (suc held)) c
+stood-for v held rest c e = cases (ltb held contentMax) e
+  where
+    cases : (t : Bool) → cond t (joined v (rest plain (suc held))) (refused longContent) ≡ content c → Joined v (rest plain (suc held)) c
+    cases true e = joined-content v (rest plain (suc held)) c e
+    cases false e = impossible cc
 
 -- one byte more keeps the bound, if the rest does
 module _ (held : ℕ) (rest : State → ℕ → Unstuffed) (c : List ℕ)

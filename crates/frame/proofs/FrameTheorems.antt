@@ -20,7 +20,7 @@ use Rattle.frame.specs.Stuffing as stuffing
 use Rattle.frame.specs.Stuffing.{flagByte, contentMax, stuff, escapes, unstuff}
 use Rattle.frame.specs.Content as content
 use Rattle.frame.specs.Content.{payloadMax, contentOf, frame, judged}
-use Rattle.frame.specs.Writing.{framed, frameOf, writeContent, writeFrame}
+use Rattle.frame.specs.Writing.{betweenFlags, framed, frameOf, writeContent, writeFrame}
 use Rattle.frame.specs.Reading.{firstFlag, flaggedBytes, between, judgedContent, readRun, readFrame}
 use Rattle.frame.specs.Answers.{readAnswer}
 use Rattle.frame.proofs.BoundLaws.{unstuff-bounded}
@@ -63,13 +63,16 @@ content-judged kind sequence payload =
     judged-good (body ++ check) whole (crc-checked linkStart body)
     ∙ ap (frame kind sequence) (take-at payload check (length (body ++ check) - 4) payload-size)
 
--- what stands between the flags of a written frame
+-- what stands between the flags
+pub between-flags : (run : List ℕ) → between (betweenFlags run) ≡ run
+between-flags run =
+    let size = length-append run (flagByte ∷ []) in
+    let inner : length run ≡ length (betweenFlags run) - 2 = omega (arith, size) in
+    take-at run (flagByte ∷ []) (length (betweenFlags run) - 2) inner
+
 framed-between : (c : List ℕ) → between (framed c) ≡ stuff c
 unfolding framed
-framed-between c =
-    let size = length-append (stuff c) (flagByte ∷ []) in
-    let inner : length (stuff c) ≡ length (flagByte ∷ stuff c ++ (flagByte ∷ [])) - 2 = omega (arith, size) in
-    take-at (stuff c) (flagByte ∷ []) (length (flagByte ∷ stuff c ++ (flagByte ∷ [])) - 2) inner
+framed-between c = between-flags (stuff c)
 
 -- THEOREM. Every frame of any type and sequence and a payload of 0 to 383 bytes is read back as its type, sequence and payload.
 pub frame-read-back : (room kind sequence : ℕ) (payload : List ℕ) → payloadMax ≤ room → length payload ≤ payloadMax

@@ -1,6 +1,7 @@
 pub mod StuffLaws
 pub mod UnstuffLaws
 pub mod BoundLaws
+pub mod ByteLaws
 pub mod RefusalLaws
 pub mod SentLaws
 pub mod ReadersLaws
@@ -9,5 +10,7 @@ pub mod ReadLaws
 pub mod WriteLaws
 pub mod StuffTheorems
 pub mod FrameTheorems
+pub mod DamageLaws
+pub mod DamagedFrames
 pub mod FrameCalls
 pub mod FlagLaws

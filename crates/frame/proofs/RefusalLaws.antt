@@ -7,12 +7,12 @@ use native.Mathlib.Omega.{arith}
 use lib.Dec.{eqb, ltb}
 use lib.ListN.{length, getD}
 use Rattle.slices.proofs.Impossible.{impossible}
-use Rattle.refusals.specs.Numbers.{longContent, shortContent, badCheck}
+use Rattle.refusals.specs.Numbers.{badFraming, longContent, shortContent, badCheck, shortOutput}
 use Rattle.crc.specs.Crc.{linkStart, crcOf}
 use Rattle.frame.specs.Stuffing as stuffing
 use Rattle.frame.specs.Stuffing.{State, plain, escaped, Meaning, escapes-next, stands-for, faulty, meaning, Unstuffed, joined, taken, contentMax, unstuffFrom, unstuff}
-use Rattle.frame.specs.Content.{payloadOf, frame, refused, judged}
-use Rattle.frame.specs.Reading.{judgedContent, readRun}
+use Rattle.frame.specs.Content.{payloadMax, payloadOf, frame, refused, judged}
+use Rattle.frame.specs.Reading.{judgedContent, flaggedBytes, between, readRun, readFrame}
 
 -- what unstuffing refuses by
 module _ (held : ℕ) (rest : State → ℕ → Unstuffed) (n : ℕ)
@@ -60,3 +60,13 @@ module _ (n : ℕ) where
           let known = refused-number plain 0 run m f in
           by-number m (known .0) (omega (arith, known .1)) e
       by-unstuffed (stuffing.content c) f e = judged-number c e
+
+  -- the whole-frame reader also refuses by 7
+  pub frame-number : (room : ℕ) (bytes : List ℕ) → readFrame room bytes ≡ refused n → (1 ≤ n) × (n ≤ 7)
+  unfolding readFrame
+  frame-number room bytes e = by-tests (ltb room payloadMax) (flaggedBytes bytes) e
+    where
+      by-tests : (t u : Bool) → cond t (refused shortOutput) (cond u (readRun (between bytes)) (refused badFraming)) ≡ refused n → (1 ≤ n) × (n ≤ 7)
+      by-tests true u e = let same : 7 ≡ n = cc in omega arith
+      by-tests false true e = let known = run-number (between bytes) e in (known .0, omega (arith, known .1))
+      by-tests false false e = let same : 1 ≡ n = cc in omega arith

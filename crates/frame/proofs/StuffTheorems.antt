@@ -14,7 +14,7 @@ use Rattle.frame.specs.Stuffing.{plain, stands-for, Unstuffed, content, 
 use Rattle.frame.specs.Reading.{firstFlag}
 
 -- a stuffed byte stands for itself
-stuffed-byte : (held b : ℕ) (rest : List ℕ)
+pub stuffed-byte : (held b : ℕ) (rest : List ℕ)
     → unstuffFrom plain held (stuffByte b ++ rest) ≡ taken (stands-for b) held (λ s₁ held₁. unstuffFrom s₁ held₁ rest)
 unfolding unstuffFrom
 stuffed-byte held b rest = cases (eqb b 0x7e) (eqb b 0x7d) refl refl

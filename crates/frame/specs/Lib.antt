@@ -4,3 +4,4 @@ pub mod Writing
 pub mod Reading
 pub mod Answers
 pub mod ReaderSteps
+pub mod Damage

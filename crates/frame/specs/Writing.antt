@@ -9,9 +9,13 @@ use Rattle.slices.specs.Written.{Output, refused, fitted}
 use Rattle.frame.specs.Content.{payloadMax, contentOf}
 use Rattle.frame.specs.Stuffing.{flagByte, stuff}
 
+-- a run of sent bytes with its two flags
+abbrev pub betweenFlags : List ℕ → List ℕ
+betweenFlags run = flagByte ∷ run ++ (flagByte ∷ [])
+
 -- the bytes on the line of some content
 unfoldable pub framed : List ℕ → List ℕ
-framed content = flagByte ∷ stuff content ++ (flagByte ∷ [])
+framed content = betweenFlags (stuff content)
 
 abbrev pub frameOf : ℕ → ℕ → List ℕ → List ℕ
 frameOf kind sequence payload = framed (contentOf kind sequence payload)

@@ -9,21 +9,27 @@ use lib.Bits.{bitXor}
 use lib.Dec.{ltb}
 use lib.ListN.{length, take}
 use Rattle.refusals.specs.Numbers.{shortOutput, longPayload}
+use Rattle.slices.specs.Bits.{Bytes}
 use Rattle.slices.specs.ExclusiveOr.{xorOf}
 use Rattle.slices.specs.Put.{putAt}
 use Rattle.slices.specs.Written as writing
 use Rattle.slices.specs.Written.{Output, fitted, writtenBytes}
 use Rattle.slices.proofs.PutLaws.{put-told}
 use Rattle.slices.proofs.Lent.{InCall, InOutCall, in-call, in-out-call}
+use Rattle.crc.specs.Burst.{Burst}
 use Rattle.crc.specs.Crc.{crcOf, checkBytes}
 use Rattle.crc.proofs.CrcLaws.{crc-checked}
 use Rattle.crc.proofs.CheckCalls as check
+use Rattle.frame.specs.Content as content
 use Rattle.frame.specs.Content.{payloadMax, frame}
-use Rattle.frame.specs.Writing.{frameOf, writeContent, writeFrame}
+use Rattle.frame.specs.Damage.{PairDamaged, Taken}
+use Rattle.frame.specs.Writing.{betweenFlags, frameOf, writeContent, writeFrame}
 use Rattle.frame.specs.Reading.{readFrame}
 use Rattle.frame.specs.Answers.{readPayload}
 use Rattle.frame.proofs.FrameTheorems.{written-length, wrote-frame, written-read-back, written-bounded}
 use Rattle.frame.proofs.FrameCalls.{sentLength, is-written}
+use Rattle.frame.proofs.DamagedFrames.{not-both-taken}
+use Rattle.frame.proofs.RefusalLaws.{frame-number}
 use Rattle.host.specs.Report.{refusalIn, lengthIn, Parts, reportOf, readReport, writtenReport, ReportsRead, ReportsWritten}
 use Rattle.host.proofs.ReportLaws.{parts-read}
 use Rattle.host.proofs.arznavik_crc.Reads as crc
@@ -74,6 +80,11 @@ pub exclusive-or : (start : ℕ) (xs ys zs : List ℕ) (first second third all :
     → all ≡ bitXor (bitXor first second) third
 exclusive-or start xs ys zs first second third all two three of-first of-second of-third of-all =
     check.exclusive-or start xs ys zs first second third all two three (as-check of-first) (as-check of-second) (as-check of-third) (as-check of-all)
+
+-- THEOREM (02, C-19). For each start value two contents of equal length that differ, and only within 16 adjacent bits, high bit first, do not
+-- both have the check 0.
+pub burst : (start : ℕ) (xs ys : List ℕ) → Burst xs ys → Checks start xs 0 → Checks start ys 0 → ⊥
+burst start xs ys b of-first of-second = check.burst start xs ys b (as-check of-first) (as-check of-second)
 
 -- what the writer does, by its two tests
 abbrev outcome : ℕ → ℕ → List ℕ → Bool → Bool → Output
@@ -127,6 +138,22 @@ module _ (kind sequence : ℕ) (payload before : List ℕ) (report : ℕ) (after
       let is = is-written kind sequence payload before short room in
       let did = was-written w in
       (did .reports ∙ ap writtenReport is ∙ ap (reportOf 0 0 0) (written-length kind sequence payload), did .frame ∙ rw is)
+
+-- THEOREM (02, C-19). Of two frames that differ, and only within the sent bytes of two neighbouring content bytes with every 7d in its place, not
+-- both are reported without a refusal.
+pub damaged-frame : (sent arrived : List ℕ) → Bytes sent → Bytes arrived → PairDamaged sent arrived → (out after out₁ after₁ : List ℕ) (report report₁ : ℕ)
+    → Reads (betweenFlags sent) out report after → Reads (betweenFlags arrived) out₁ report₁ after₁ → refusalIn report ≡ 0 → refusalIn report₁ ≡ 0 → ⊥
+damaged-frame sent arrived bytes bytes₁ damage out after out₁ after₁ report report₁ r r₁ none none₁ =
+    not-both-taken sent arrived bytes bytes₁ damage (length out) (length out₁) (reported (betweenFlags sent) out report after r none)
+    (reported (betweenFlags arrived) out₁ report₁ after₁ r₁ none₁)
+  where
+    reported : (string before : List ℕ) (report : ℕ) (after : List ℕ) → Reads string before report after → refusalIn report ≡ 0
+        → Taken (readFrame (length before) string)
+    reported string before report after r none = cases (readFrame (length before) string) refl (was-read r .reports)
+      where
+        cases : (found : content.Read) → readFrame (length before) string ≡ found → report ≡ readReport found → Taken found
+        cases (content.frame kind sequence payload) f e = tt
+        cases (content.refused n) f e = let known = frame-number n (length before) string f in absurd (omega (arith, known .0, known .1))
 
 -- Such calls are there for all that can be lent, since the contracts ask nothing.
 pub all-bytes-are-checked : (start : ℕ) (bytes : List ℕ) → Checks start bytes (crcOf start bytes)

@@ -1,3 +1,4 @@
+pub mod BitLaws
 pub mod EachLaws
 pub mod EachPut
 pub mod HighFirstLaws

@@ -5,7 +5,7 @@ use Prim.Native.Nat.{ℕ, zero, suc, _*_, _/_, _%_, _^_, _<_}
 use native.Mathlib.Nat.{add-zero}
 use native.Mathlib.Omega.{arith}
 use lib.Arith.{bin-ind, digits-mod}
-use lib.Bits.{bitXor, differ, xor-step, xor-shr, xor-comm, xor-block, xor-self, xor-zero-r}
+use lib.Bits.{bitXor, differ, xor-step, xor-shr, xor-comm, xor-block, xor-self, xor-zero-l, xor-zero-r}
 use lib.Pow.{pow-pos}
 
 -- the exclusive-or of two binary digits is a digit, and of three it does not matter which two are taken first
@@ -53,6 +53,14 @@ xor-swap a b c d =
 -- a number that is added twice is gone
 pub xor-twice : (a b : ℕ) → bitXor (bitXor a b) b ≡ a
 xor-twice a b = xor-assoc a b b ∙ ap (bitXor a) (xor-self b) ∙ xor-zero-r a
+
+-- two numbers whose exclusive-or is 0 are the same
+pub xor-none : (a b : ℕ) → bitXor a b ≡ 0 → a ≡ b
+xor-none a b e = sym (xor-twice a b) ∙ ap (λ (x : ℕ). bitXor x b) e ∙ xor-zero-l b
+
+-- a number that is added to both changes nothing of what they differ by
+pub xor-added : (a b added : ℕ) → bitXor (bitXor a added) (bitXor b added) ≡ bitXor a b
+xor-added a b added = xor-swap a added b added ∙ ap (bitXor (bitXor a b)) (xor-self added) ∙ xor-zero-r (bitXor a b)
 
 -- both moved up by k places
 pub xor-shl : (k a b : ℕ) → bitXor (a * 2 ^ k) (b * 2 ^ k) ≡ bitXor a b * 2 ^ k

@@ -1,3 +1,5 @@
+pub mod Bits
+pub mod Difference
 pub mod Each
 pub mod ExclusiveOr
 pub mod HighFirst

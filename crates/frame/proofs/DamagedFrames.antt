@@ -1,0 +1,90 @@
+-- 02, C-19: of two sent frames that differ only within the sent bytes of two neighbouring content bytes, no 7d made or unmade there, the reader takes
+-- one at most.
+use mathlib.Core.Path.{_≡_, refl, sym, _∙_, subst}
+use mathlib.Core.Bool.{Bool, true, false, cond}
+use mathlib.Core.List.{List}
+use Prim.Native.Nat.{ℕ}
+use lib.Dec.{eqb, ltb}
+use lib.ListN.{length, getD}
+use borrow.Author.Tests.{eqb-true}
+use Rattle.refusals.specs.Numbers.{badFraming, shortOutput, shortContent, badCheck}
+use Rattle.crc.specs.Crc.{linkStart, crcOf}
+use Rattle.crc.proofs.BurstLaws.{burst-seen, pair-burst}
+use Rattle.slices.proofs.Impossible.{impossible}
+use Rattle.slices.specs.Bits.{Bytes}
+use Rattle.frame.specs.Stuffing as stuffing
+use Rattle.frame.specs.Stuffing.{plain, unstuff}
+use Rattle.frame.specs.Content.{payloadMax, Read, frame, refused, payloadOf, judged}
+use Rattle.frame.specs.Reading.{judgedContent, flaggedBytes, between, readRun, readFrame}
+use Rattle.frame.specs.Writing.{betweenFlags}
+use Rattle.frame.specs.Answers.{readAnswer}
+use Rattle.frame.specs.Damage.{PairDamaged, Taken}
+use Rattle.frame.specs.declared.content.FrameRead.the-variants as read
+use Rattle.frame.proofs.ByteLaws.{unstuffed-bytes}
+use Rattle.frame.proofs.DamageLaws.{contents-differ}
+use Rattle.frame.proofs.FrameTheorems.{between-flags}
+use Rattle.frame.proofs.FrameCalls.{Reads, was-read}
+
+-- a run that was taken has content that passes the check
+record Passed (run : List ℕ) : Type 0 where
+  c : List ℕ
+  unstuffed : unstuff run ≡ stuffing.content c
+  passes : crcOf linkStart c ≡ 0
+
+passed : (run : List ℕ) → Taken (readRun run) → Passed run
+unfolding readRun judged
+passed run t = cases (unstuff run) refl t
+  where
+    judged-taken : (c : List ℕ) (short good : Bool) → eqb (crcOf linkStart c) 0 ≡ good
+        → Taken (cond short (refused shortContent) (cond good (frame (getD c 0 0) (getD c 1 0) (payloadOf c)) (refused badCheck))) → crcOf linkStart c ≡ 0
+    judged-taken c true good e t = absurd t
+    judged-taken c false true e t = eqb-true (crcOf linkStart c) 0 e
+    judged-taken c false false e t = absurd t
+
+    cases : (found : stuffing.Unstuffed) → unstuff run ≡ found → Taken (judgedContent found) → Passed run
+    cases (stuffing.refused n) e t = absurd t
+    cases (stuffing.content c) e t = record { c = c; unstuffed = e; passes = judged-taken c (ltb (length c) 4) (eqb (crcOf linkStart c) 0) refl t }
+
+-- THEOREM (02, C-19). Of two runs of sent bytes that are damaged so, not both are taken.
+pub damaged-run : (sent arrived : List ℕ) → Bytes sent → Bytes arrived → PairDamaged sent arrived → Taken (readRun sent) → Taken (readRun arrived) → ⊥
+unfolding unstuff
+damaged-run sent arrived bytes bytes₁ damage taken taken₁ =
+    let p = passed sent taken in
+    let q = passed arrived taken₁ in
+    burst-seen linkStart (p .c) (q .c)
+    (pair-burst (p .c) (q .c) (unstuffed-bytes plain 0 sent (p .c) bytes (p .unstuffed)) (unstuffed-bytes plain 0 arrived (q .c) bytes₁ (q .unstuffed))
+    (contents-differ sent arrived (p .c) (q .c) damage (p .unstuffed) (q .unstuffed)))
+    (p .passes ∙ sym (q .passes))
+
+-- a frame is taken only if the run between its flags is
+taken-run : (room : ℕ) (run : List ℕ) → Taken (readFrame room (betweenFlags run)) → Taken (readRun run)
+unfolding readFrame
+taken-run room run t = cases (ltb room payloadMax) (flaggedBytes (betweenFlags run)) t
+  where
+    cases : (short good : Bool) → Taken (cond short (refused shortOutput) (cond good (readRun (between (betweenFlags run))) (refused badFraming)))
+        → Taken (readRun run)
+    cases true good t = absurd t
+    cases false true t = subst (λ (l : List ℕ). Taken (readRun l)) (between-flags run) t
+    cases false false t = absurd t
+
+pub not-both-taken : (sent arrived : List ℕ) → Bytes sent → Bytes arrived → PairDamaged sent arrived → (room room₁ : ℕ)
+    → Taken (readFrame room (betweenFlags sent)) → Taken (readFrame room₁ (betweenFlags arrived)) → ⊥
+not-both-taken sent arrived bytes bytes₁ damage room room₁ t t₁ =
+    damaged-run sent arrived bytes bytes₁ damage (taken-run room sent t) (taken-run room₁ arrived t₁)
+
+-- a call that tells of a frame took it
+told : (string before : List ℕ) (kind sequence n : ℕ) (after : List ℕ) → Reads string before (read.Frame kind sequence n) after
+    → Taken (readFrame (length before) string)
+told string before kind sequence n after r = cases (readFrame (length before) string) (was-read r .answers)
+  where
+    cases : (found : Read) → read.Frame kind sequence n ≡ readAnswer found → Taken found
+    cases (frame k q p) e = tt
+    cases (refused m) e = impossible cc
+
+-- THEOREM (02, C-19). Of two frames that are damaged so, not both are taken by calls of `read_frame`.
+pub damaged-frame : (sent arrived : List ℕ) → Bytes sent → Bytes arrived → PairDamaged sent arrived
+    → (out after out₁ after₁ : List ℕ) (kind sequence n kind₁ sequence₁ n₁ : ℕ)
+    → Reads (betweenFlags sent) out (read.Frame kind sequence n) after → Reads (betweenFlags arrived) out₁ (read.Frame kind₁ sequence₁ n₁) after₁ → ⊥
+damaged-frame sent arrived bytes bytes₁ damage out after out₁ after₁ kind sequence n kind₁ sequence₁ n₁ r r₁ =
+    not-both-taken sent arrived bytes bytes₁ damage (length out) (length out₁)
+    (told (betweenFlags sent) out kind sequence n after r) (told (betweenFlags arrived) out₁ kind₁ sequence₁ n₁ after₁ r₁)

@@ -27,7 +27,7 @@ use classes::Class;
 use random::Random;
 use std::process::ExitCode;
 
-/// How often each kind of answer must be met for each seed.
+/// How often each kind of answer must be met.
 const LEAST: u64 = 1;
 
 // Inputs for each seed.

@@ -47,7 +47,7 @@ impl<Class: Copy + Debug + PartialEq> Tally<Class> {
 
     pub fn print(&self) {
         for (class, count) in &self.counts {
-            println!("  {count:>7} {class:?}");
+            println!("  {count:>8} {class:?}");
         }
     }
 

@@ -16,16 +16,25 @@ pub struct Trials<Class> {
 
 impl<Class: Copy + Debug + PartialEq> Trials<Class> {
     pub fn note(&mut self, input: &str, result: Result<Class, String>) {
-        self.note_many(input, result.map(|class| (class, 1)));
+        self.note_many(input, result.map(|class| ([class], 1)));
     }
 
-    /// Several inputs with answers of one kind, or the first that failed.
-    pub fn note_many(&mut self, input: &str, result: Result<(Class, u64), String>) {
+    /// Several inputs with answers of the same kinds, or the first that failed. Says how many were
+    /// answered as wanted.
+    pub fn note_many(
+        &mut self,
+        input: &str,
+        result: Result<(impl AsRef<[Class]>, u64), String>,
+    ) -> u64 {
         match result {
-            Ok((class, times)) => self.tally.add_many(&[class], times),
+            Ok((classes, times)) => {
+                self.tally.add_many(classes.as_ref(), times);
+                times
+            }
             Err(fault) => {
                 println!("FAILED {input}: {fault}");
                 self.failures += 1;
+                0
             }
         }
     }
@@ -50,21 +59,24 @@ impl<Class: Copy + Debug + PartialEq> Trials<Class> {
         inputs: impl Iterator<Item = Input>,
         run: impl Fn(&Input) -> Result<Class, String>,
     ) {
-        self.each_many(input, inputs, |each| run(each).map(|class| (class, 1)));
+        self.each_many(input, inputs, |each| run(each).map(|class| ([class], 1)));
     }
 
-    pub fn each_many<Input>(
+    /// The same, with several inputs in one.
+    pub fn each_many<Input, Classes: AsRef<[Class]>>(
         &mut self,
         input: &str,
         inputs: impl Iterator<Item = Input>,
-        run: impl Fn(&Input) -> Result<(Class, u64), String>,
-    ) {
+        mut run: impl FnMut(&Input) -> Result<(Classes, u64), String>,
+    ) -> u64 {
+        let mut answered = 0;
         for each in inputs {
             if self.failures == FAILURES_SHOWN {
-                return;
+                break;
             }
-            self.note_many(input, run(&each));
+            answered += self.note_many(input, run(&each));
         }
+        answered
     }
 
     /// Fails if an input did, or if a kind of answer was met fewer times than this.
@@ -80,8 +92,8 @@ impl<Class: Copy + Debug + PartialEq> Trials<Class> {
     }
 }
 
-/// A run of this name over the seeds that the arguments name, which has to meet each kind of answer
-/// so often for each seed.
+/// A run of this name over the seeds that the arguments name. It has to meet each kind of answer at
+/// least so often.
 pub fn main<Class: Copy + Debug + PartialEq>(
     name: &str,
     classes: impl Iterator<Item = Class>,
@@ -100,5 +112,5 @@ pub fn main<Class: Copy + Debug + PartialEq>(
         failures: 0,
     };
     run(&mut trials, &seeds);
-    trials.report(name, &seeds, least * seeds.len() as u64)
+    trials.report(name, &seeds, least)
 }

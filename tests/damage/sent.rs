@@ -3,7 +3,7 @@
 
 use crate::classes::{Class, Length};
 use crate::content::{frame_length, Content, FRAME_START};
-use crate::frame::{check, ESCAPE, FLAG};
+use crate::frame::{check, Refusal, ESCAPE, FLAG};
 use crate::line_bytes::hex;
 use crate::random::Random;
 use crate::reader::{framed, read_by_both};
@@ -109,23 +109,35 @@ pub fn random_refused(random: &mut Random) -> Result<(Vec<Class>, u64), String> 
     }
 }
 
-/// The damaged frame is refused, by 1 for an escape or by 4.
+/// The damaged frame is refused: by 1 if a byte stands behind an escape that may not, else by 4.
 pub fn refused(damage: &Damage) -> Result<(Vec<Class>, u64), String> {
     let (frame, [first, last]) = (damage.frame, damage.places);
     let mut damaged = frame.to_vec();
     [damaged[first], damaged[last]] = damage.bytes;
-    let Err(refusal) = read_by_both(&damaged)? else {
-        let (frame, damaged) = (hex(frame), hex(&damaged));
-        return Err(format!("frame {frame}: damaged to {damaged} it is taken"));
+    let escaped: Vec<u8> = [first, last]
+        .into_iter()
+        .filter(|place| frame[*place - 1] == ESCAPE)
+        .map(|place| damaged[place])
+        .collect();
+    let wanted = match escaped.iter().all(|byte| [0x5d, 0x5e].contains(byte)) {
+        true => Refusal::WrongCheck,
+        false => Refusal::WrongEscape,
     };
-    let escapes = [first, last].map(|place| frame[place - 1] == ESCAPE);
-    let escaped = escapes.into_iter().filter(|escape| *escape).count();
-    let mut classes = vec![
-        Class::Sent(escaped, refusal),
-        Class::SentIn(Length::of(free_places(frame).len())),
-    ];
-    if frame[first - 1..=last] == [ESCAPE, 0x5e, ESCAPE, 0x5d] && damage.bytes == [0x5d, 0x5e] {
+    let answer = read_by_both(&damaged)?;
+    if answer != Err(wanted) {
+        let (frame, damaged) = (hex(frame), hex(&damaged));
+        return Err(format!("frame {frame}: damaged to {damaged} {answer:x?}"));
+    }
+    let length = Length::of(free_places(frame).len());
+    let mut classes = vec![Class::Sent(escaped.len(), wanted), Class::SentIn(length)];
+    if is_exchange(damage) {
         classes.push(Class::EscapesExchanged);
     }
     Ok((classes, 1))
+}
+
+/// 7d 5e 7d 5d damaged to 7d 5d 7d 5e.
+fn is_exchange(damage: &Damage) -> bool {
+    let [first, last] = damage.places;
+    damage.frame[first - 1..=last] == [ESCAPE, 0x5e, ESCAPE, 0x5d] && damage.bytes == [0x5d, 0x5e]
 }

@@ -1,7 +1,7 @@
 //! Damage that makes or unmakes a 7d or 7e. It can give content of another length, and be taken.
 
 use crate::frame::Frame;
-use crate::reader::read_by_both;
+use crate::reader::{read_by_both, taken};
 use crate::sent::is_flag_or_escape;
 
 /// A frame, and the same with two neighbouring bytes damaged so that they are an escape. Both are
@@ -26,25 +26,23 @@ pub fn spaced(bytes: &[u8]) -> String {
 /// A line for each of the two frames.
 pub fn example() -> Result<[String; 2], String> {
     Ok([
-        taken(&PLAIN, &PLAIN_PAYLOAD)?,
-        taken(&ESCAPED, &ESCAPED_PAYLOAD)?,
+        line(&PLAIN, &PLAIN_PAYLOAD)?,
+        line(&ESCAPED, &ESCAPED_PAYLOAD)?,
     ])
 }
 
-fn taken(sent: &[u8], payload: &[u8]) -> Result<String, String> {
+fn line(sent: &[u8], payload: &[u8]) -> Result<String, String> {
     let wanted = Frame {
         kind: 1,
         sequence: 5,
         payload: payload.to_vec(),
     };
-    match read_by_both(sent)? {
-        Ok(frame) if frame == wanted => Ok(format!(
-            "{} is taken, payload {}",
-            spaced(sent),
-            spaced(payload)
-        )),
-        other => Err(format!("frame {}: {other:x?}", spaced(sent))),
+    let frame = taken(sent)?;
+    let (sent, payload) = (spaced(sent), spaced(payload));
+    if frame != wanted {
+        return Err(format!("frame {sent}: {frame:x?}, wanted {wanted:x?}"));
     }
+    Ok(format!("{sent} is taken, payload {payload}"))
 }
 
 fn makes_or_unmakes(sent: &[u8], received: &[u8]) -> bool {

@@ -34,6 +34,7 @@ mod trials;
 use classes::Class;
 use content::Content;
 use escapes::spaced;
+use frame::CONTENT_MAX;
 use random::Random;
 use std::ops::RangeInclusive;
 use std::process::ExitCode;
@@ -76,11 +77,14 @@ fn within_16_bits(trials: &mut Trials, seeds: &[u64]) {
     });
     for seed in seeds {
         let mut random = Random::new(*seed);
-        caught += trials.each_many(&format!("seed {seed}, 16 bits"), 0..BURSTS, |_| {
-            random_bursts::caught(&mut random)
-        });
-        let input = format!("seed {seed}, 16 bits in a frame");
+        let input = format!("seed {seed}, 16 bits");
+        caught += trials.each_many(&input, 0..BURSTS, |_| random_bursts::caught(&mut random));
         refused += trials.each_many(&input, 0..BURSTS, |_| random_bursts::refused(&mut random));
+        let longest = Content::of_lengths(&mut random, CONTENT_MAX..=CONTENT_MAX);
+        let windows = bursts::windows(&longest);
+        caught += trials.each_many(&input, windows, |(content, window)| {
+            random_bursts::caught_in(&mut random, content, *window)
+        });
     }
     println!("  {caught} contents damaged within 16 adjacent bits: caught");
     println!("  {refused} frames of contents damaged within 16 adjacent bits: refused by 4");
@@ -89,6 +93,9 @@ fn within_16_bits(trials: &mut Trials, seeds: &[u64]) {
 fn within_two_sent_bytes(trials: &mut Trials, seeds: &[u64]) {
     let mut refused = 0;
     for frame in sent::short_frames() {
+        if let Err(fault) = reader::taken(&frame) {
+            trials.note("sent bytes without damage", Err(fault));
+        }
         refused += trials.each_many("sent bytes", sent::all(&frame), sent::refused);
     }
     for seed in seeds {

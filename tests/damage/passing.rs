@@ -7,7 +7,7 @@ use crate::content::{any_length, any_start, frame_length, Content, Window};
 use crate::content::{FRAME_START, POLYNOMIAL, POLYNOMIAL_BITS};
 use crate::line_bytes::hex;
 use crate::random::Random;
-use crate::reader::{framed, read_by_both};
+use crate::reader::{framed, taken};
 
 /// Each window of 17 bits in each content.
 pub fn windows(contents: &[Content]) -> impl Iterator<Item = (&Content, Window)> {
@@ -44,13 +44,8 @@ pub fn random_passes(random: &mut Random) -> Result<([Class; 1], u64), String> {
 /// A frame with the polynomial in its content is taken.
 pub fn is_taken(content: &Content, window: Window) -> Result<([Class; 1], u64), String> {
     let damaged = content.damaged(window, POLYNOMIAL);
-    match read_by_both(&framed(&damaged))? {
-        Ok(_) => Ok(([Class::FramedPolynomialIn(Length::of(damaged.len()))], 1)),
-        Err(refusal) => Err(format!(
-            "{content}: damaged to {}, {refusal:?}",
-            hex(&damaged)
-        )),
-    }
+    taken(&framed(&damaged)).map_err(|fault| format!("{content}: damaged, {fault}"))?;
+    Ok(([Class::FramedPolynomialIn(Length::of(damaged.len()))], 1))
 }
 
 pub fn random_is_taken(random: &mut Random) -> Result<([Class; 1], u64), String> {

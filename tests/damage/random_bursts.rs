@@ -6,7 +6,7 @@ use crate::classes::{Class, Length};
 use crate::content::{any_length, any_start, frame_length, Content, Window, BURST, FRAME_START};
 use crate::frame::Refusal;
 use crate::random::Random;
-use crate::reader::{framed, read_by_both};
+use crate::reader::{framed, read_by_both, taken};
 
 /// A window of a content, at its start, at its end, past it, of two bytes, or anywhere.
 fn window(random: &mut Random, bits: usize) -> Window {
@@ -26,24 +26,33 @@ fn pattern(random: &mut Random, cut_off: usize) -> u32 {
     (1 + random.below(patterns) as u32) << cut_off
 }
 
-/// Damage that the check catches; the division of polynomials says so too.
+/// A content of any length.
 pub fn caught(random: &mut Random) -> Result<([Class; 2], u64), String> {
     let (start, length) = (any_start(random), any_length(random));
     let content = Content::random(random, start, length);
-    checks::passes(&content)?;
     let window = window(random, content.bits());
+    caught_in(random, &content, window)
+}
+
+/// Damage within this window is caught by the check, and by the division of polynomials.
+pub fn caught_in(
+    random: &mut Random,
+    content: &Content,
+    window: Window,
+) -> Result<([Class; 2], u64), String> {
+    checks::passes(content)?;
     let damaged = content.damaged(window, pattern(random, window.cut_off(content.bits())));
-    match checks::checked(start, &damaged)? {
-        0 => Err(missed(&content, &damaged)),
-        _ => Ok((classes(&content, window), 1)),
+    match checks::checked(content.start, &damaged)? {
+        0 => Err(missed(content, &damaged)),
+        _ => Ok((classes(content, window), 1)),
     }
 }
 
-/// The same in a frame, which was taken before.
+/// The content of a frame, which was taken before.
 pub fn refused(random: &mut Random) -> Result<([Class; 1], u64), String> {
     let length = frame_length(random);
     let content = Content::random(random, FRAME_START, length);
-    read_by_both(&framed(&content.bytes))?.map_err(|refusal| format!("{content}: {refusal:?}"))?;
+    taken(&framed(&content.bytes))?;
     let window = window(random, content.bits());
     let damaged = content.damaged(window, pattern(random, window.cut_off(content.bits())));
     match read_by_both(&framed(&damaged))? {

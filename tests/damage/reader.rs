@@ -31,6 +31,11 @@ pub fn read_by_both(sent: &[u8]) -> Result<Result<Frame, Refusal>, String> {
     Ok(wanted)
 }
 
+/// A frame that both take.
+pub fn taken(sent: &[u8]) -> Result<Frame, String> {
+    read_by_both(sent)?.map_err(|refusal| format!("frame {}: {refusal:?}", hex(sent)))
+}
+
 pub fn framed(content: &[u8]) -> Vec<u8> {
     between_flags(&stuff(content))
 }

@@ -6,7 +6,7 @@ use crate::content::{frame_length, Content, FRAME_START};
 use crate::frame::{check, Refusal, ESCAPE, FLAG};
 use crate::line_bytes::hex;
 use crate::random::Random;
-use crate::reader::{framed, read_by_both};
+use crate::reader::{framed, read_by_both, taken};
 
 /// A frame, and at two places other bytes.
 pub struct Damage<'a> {
@@ -93,7 +93,7 @@ fn byte(random: &mut Random, before: u8) -> u8 {
 pub fn random_refused(random: &mut Random) -> Result<(Vec<Class>, u64), String> {
     let length = frame_length(random);
     let frame = framed(&Content::random(random, FRAME_START, length).bytes);
-    read_by_both(&frame)?.map_err(|refusal| format!("{}: {refusal:?}", hex(&frame)))?;
+    taken(&frame)?;
     let first = random.below(length - 1);
     let free = free_places(&frame);
     let places = [free[first], free[first + 1]];

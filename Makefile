@@ -23,7 +23,7 @@ BENCH_CFLAGS := -std=c99 -O3 $(WARNINGS) -Iinclude
 
 HEADERS := $(wildcard include/*.h $(addsuffix /*.h,tests/c tests/fuzz bench examples/firmware))
 C_TESTS := known_answers crc writer reader header collector line
-TESTS := $(C_TESTS) serial reference division differential replay_reference replay_test \
+TESTS := $(C_TESTS) serial reference division differential damage replay_reference replay_test \
 	history_text history_text_test ash_reference ash_test packet_reference packet_test \
 	session_reference session_test
 PLAIN := bench/plain_frame.c bench/plain_crc.c
@@ -131,6 +131,9 @@ $(OUT)/differential: tests/differential/main.rs $(wildcard tests/differential/*.
 		$(ARCHIVE) | $(OUT)
 	$(call rust,-C link-arg=$(ARCHIVE))
 
+$(OUT)/damage: tests/damage/main.rs $(wildcard tests/damage/*.rs) $(RUST_SHARED) $(ARCHIVE) | $(OUT)
+	$(call rust,-C link-arg=$(ARCHIVE))
+
 REPLAY_TEST := tests/replay/main.rs $(wildcard tests/replay/*.rs) $(RUST_SHARED)
 
 $(OUT)/replay_test: $(REPLAY_TEST) | $(OUT)
@@ -179,6 +182,7 @@ test: $(addprefix $(OUT)/,$(TESTS)) $(OUT)/display $(REPLAY) $(CASES)
 	@$(OUT)/reference --quiet
 	@$(OUT)/division --quiet
 	@$(OUT)/differential
+	@$(OUT)/damage
 	@$(OUT)/history_text_test --quiet
 	@tests/history_text/run.sh $(OUT)/history_text $(CASE_6).history $(CASE_6).txt
 	@$(OUT)/replay_reference --quiet

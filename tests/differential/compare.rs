@@ -5,6 +5,7 @@ use crate::classes::Class;
 use crate::division;
 use crate::frame::{check, read_frame, write_frame, Frame, Refusal};
 use crate::inputs::{CheckInput, CrcInput, JoinedInput, ThreeInput, WriteInput, PLACED_MAX};
+use crate::line_bytes::hex;
 
 /// Bytes on both sides of a lent output that must stay.
 const GUARD: usize = 16;
@@ -34,10 +35,6 @@ impl Lent {
         wanted[GUARD..GUARD + written.len()].copy_from_slice(written);
         wanted
     }
-}
-
-fn hex(bytes: &[u8]) -> String {
-    bytes.iter().map(|byte| format!("{byte:02x}")).collect()
 }
 
 /// The report of a call that was not refused, as `arznavik.h` lays it out.

@@ -1,7 +1,8 @@
 //! Random inputs for the three calls and the two laws of the check: valid, damaged, and at each
 //! limit.
 
-use crate::frame::{enclose, stuff, ESCAPE, FLAG};
+use crate::frame::{between_flags, enclose, stuff, ESCAPE, FLAG};
+use crate::line_bytes::bytes;
 use crate::random::Random;
 
 /// Bytes lent to the frame check, and the length of its output.
@@ -45,22 +46,6 @@ pub const PLACED_MAX: usize = 40;
 /// Longer than any content, any field of a history, and 16 bits.
 const LONG_LENGTHS: [usize; 4] = [1_000, 4_096, 65_537, 100_000];
 
-/// Any bytes, bytes that matter to framing, or one byte throughout.
-fn bytes(random: &mut Random, length: usize) -> Vec<u8> {
-    let alphabet: &[u8] = match random.below(6) {
-        0 => &[FLAG],
-        1 => &[ESCAPE],
-        2 => &[FLAG, ESCAPE],
-        3 => &[FLAG, ESCAPE, 0x5e, 0x5d, 0x01, 0x02, 0x41],
-        _ => &[],
-    };
-    let draw = |_| match alphabet {
-        [] => random.byte(),
-        _ => random.one_of(alphabet),
-    };
-    (0..length).map(draw).collect()
-}
-
 fn length(random: &mut Random) -> usize {
     match random.below(3) {
         0 => random.below(20),
@@ -75,10 +60,6 @@ fn any_length(random: &mut Random) -> usize {
         0 => random.one_of(&LONG_LENGTHS),
         _ => length(random),
     }
-}
-
-pub fn between_flags(sent: &[u8]) -> Vec<u8> {
-    [&[FLAG], sent, &[FLAG]].concat()
 }
 
 fn header_byte(random: &mut Random) -> u8 {

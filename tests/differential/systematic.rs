@@ -1,8 +1,8 @@
 //! Inputs that go through every value of something. A check may take eight bytes in one step, or
 //! two, and the bytes left over by a table, so the strings have every length around 2, 8 and 16.
 
-use crate::frame::{check, enclose, stuff};
-use crate::inputs::{between_flags, CheckInput, CrcInput, WriteInput};
+use crate::frame::{between_flags, check, enclose, stuff};
+use crate::inputs::{CheckInput, CrcInput, WriteInput};
 
 /// The start of a frame's check.
 const START: u16 = 0xffff;

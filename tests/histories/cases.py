@@ -57,6 +57,7 @@ EMPTY = item(5, b"")
 UPDATE = packet(H1, CENTS)
 REPLY = "reply 7e02007b6d7e"
 REPLY_1 = "reply 7e02016b4c7e"
+REPLY_5 = "reply 7e02052bc87e"
 
 
 def integer(value, size):
@@ -79,6 +80,12 @@ def refused_frame(data, number):
 def damaged(sent):
     """The frame with one bit of its check changed."""
     return sent[:-2] + bytes([sent[-2] ^ 1]) + sent[-1:]
+
+
+def replaced(sent, old, new):
+    """The frame with these bytes, which stand in it once, damaged to as many others."""
+    assert sent.count(old) == 1 and len(old) == len(new)
+    return sent.replace(old, new)
 
 
 def end_mark(payload):
@@ -153,6 +160,30 @@ def cases():
         REPLY_1, REPLY, "h1 current 3450 0"] + counts(new=2)
     yield "cut_between_fields", names(b"h1") + received(case_6[:7]) + received(case_6[7:]), [
         REPLY, "h1 current 3450 0"] + counts(new=1)
+
+    # Two neighbouring bytes 0d 7a, which are 3450, damaged to 26 90, which would be 9872.
+    yield "damage_caught", names(b"h1") + received(case_6) + TICK + received(
+        replaced(again, b"\x0d\x7a", b"\x26\x90")) + TICK, [
+        REPLY, "h1 current 3450 2"] + counts(new=1, refused=(0, 0, 0, 1, 0, 0))
+    # 7e 7d, which are 32381, sent as 7d 5e 7d 5d; the escapes exchanged; a byte behind one damaged.
+    escapes = packet(H1, item(0x16, b"\x00\x00\x7e\x7d"))
+    yield "damage_caught_in_escapes", names(b"h1") + received(frame(1, 0, escapes)) + received(
+        replaced(frame(1, 1, escapes), b"\x7d\x5e\x7d\x5d", b"\x7d\x5d\x7d\x5e")) + received(
+        replaced(frame(1, 2, escapes), b"\x7d\x5e\x7d\x5d", b"\x7d\x5e\x7d\x41")), [
+        REPLY, "h1 current 32381 0"] + counts(new=1, refused=(1, 0, 0, 1, 0, 0))
+    # The 17 bits of the polynomial, 00 01 10 21, in the value: the check cannot see them.
+    yield "damage_passed", names(b"h1") + received(
+        replaced(case_6, b"\x00\x00\x0d\x7a", b"\x00\x01\x1d\x5b")), [
+        REPLY, "h1 current 73051 0"] + counts(new=1)
+    # 50 3a damaged to 7d 5e, one content byte: taken too. Between them case 6, or it would be a repeat.
+    unescaped = bytes.fromhex("7e010542503a4327247e")
+    yield "damage_makes_an_escape", names(b"h1") + received(unescaped) + received(case_6) + received(
+        replaced(unescaped, b"\x50\x3a", b"\x7d\x5e")), [
+        REPLY_5, REPLY, REPLY_5, "h1 current 3450 0"] + counts(new=3, unread=2)
+    # 01 02 damaged to 7e 02: two frames, of which neither is good.
+    yield "damage_makes_a_flag", names(b"h1") + received(case_6) + received(
+        replaced(again, b"\x01\x02\x68", b"\x7e\x02\x68")), [
+        REPLY, "h1 current 3450 0"] + counts(new=1, refused=(0, 0, 0, 2, 0, 0))
 
     yield "age_29", names(b"h1") + received(case_6) + TICK * 29, [
         REPLY, "h1 current 3450 29"] + counts(new=1)

@@ -89,15 +89,16 @@ fn unstuff(sent: &[u8]) -> Result<Vec<u8>, Refusal> {
     Ok(content)
 }
 
+pub fn between_flags(sent: &[u8]) -> Vec<u8> {
+    [&[FLAG], sent, &[FLAG]].concat()
+}
+
 /// Type, sequence, payload and check of any length, between flags.
 pub fn enclose(kind: u8, sequence: u8, payload: &[u8]) -> Vec<u8> {
     let mut content = vec![kind, sequence];
     content.extend(payload);
     content.extend(check(0xffff, &content).to_be_bytes());
-    let mut frame = vec![FLAG];
-    frame.extend(stuff(&content));
-    frame.push(FLAG);
-    frame
+    between_flags(&stuff(&content))
 }
 
 /// The frame writer: the bytes of the frame, or 8, then 7.

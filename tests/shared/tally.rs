@@ -17,9 +17,14 @@ impl<Class: Copy + Debug + PartialEq> Tally<Class> {
 
     /// Adds one answer, which may be of several kinds.
     pub fn add(&mut self, classes: &[Class]) {
-        self.answers += 1;
+        self.add_many(classes, 1);
+    }
+
+    /// Adds so many answers of the same kinds.
+    pub fn add_many(&mut self, classes: &[Class], times: u64) {
+        self.answers += times;
         for class in classes {
-            self.add_times(*class, 1);
+            self.add_times(*class, times);
         }
     }
 
@@ -42,7 +47,7 @@ impl<Class: Copy + Debug + PartialEq> Tally<Class> {
 
     pub fn print(&self) {
         for (class, count) in &self.counts {
-            println!("  {count:>7} {class:?}");
+            println!("  {count:>8} {class:?}");
         }
     }
 

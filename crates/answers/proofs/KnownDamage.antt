@@ -102,6 +102,8 @@ pub pair-damaged : PairDamaged case-1 swapped
 unfolding each
 pair-damaged =
     record {
+      bytes = bytes case-1 refl;
+      other-bytes = bytes swapped refl;
       before = 0x02 ∷ 0x01 ∷ 0x7a ∷ 0x7b ∷ 0x7c ∷ [];
       first = 0x7d;
       second = 0x7e;

@@ -11,7 +11,6 @@ use Rattle.refusals.specs.Numbers.{badFraming, shortOutput, shortContent, badCh
 use Rattle.crc.specs.Crc.{linkStart, crcOf}
 use Rattle.crc.proofs.BurstLaws.{burst-seen, pair-burst}
 use Rattle.slices.proofs.Impossible.{impossible}
-use Rattle.slices.specs.Bits.{Bytes}
 use Rattle.frame.specs.Stuffing as stuffing
 use Rattle.frame.specs.Stuffing.{plain, unstuff}
 use Rattle.frame.specs.Content.{payloadMax, Read, frame, refused, payloadOf, judged}
@@ -46,13 +45,13 @@ passed run t = cases (unstuff run) refl t
     cases (stuffing.content c) e t = record { c = c; unstuffed = e; passes = judged-taken c (ltb (length c) 4) (eqb (crcOf linkStart c) 0) refl t }
 
 -- THEOREM (02, C-19). Of two runs of sent bytes that are damaged so, not both are taken.
-pub damaged-run : (sent arrived : List ℕ) → Bytes sent → Bytes arrived → PairDamaged sent arrived → Taken (readRun sent) → Taken (readRun arrived) → ⊥
+pub damaged-run : (sent arrived : List ℕ) → PairDamaged sent arrived → Taken (readRun sent) → Taken (readRun arrived) → ⊥
 unfolding unstuff
-damaged-run sent arrived bytes bytes₁ damage taken taken₁ =
+damaged-run sent arrived damage taken taken₁ =
     let p = passed sent taken in
     let q = passed arrived taken₁ in
     burst-seen linkStart (p .c) (q .c)
-    (pair-burst (p .c) (q .c) (unstuffed-bytes plain 0 sent (p .c) bytes (p .unstuffed)) (unstuffed-bytes plain 0 arrived (q .c) bytes₁ (q .unstuffed))
+    (pair-burst (p .c) (q .c) (unstuffed-bytes plain 0 sent (p .c) (damage .bytes) (p .unstuffed)) (unstuffed-bytes plain 0 arrived (q .c) (damage .other-bytes) (q .unstuffed))
     (contents-differ sent arrived (p .c) (q .c) damage (p .unstuffed) (q .unstuffed)))
     (p .passes ∙ sym (q .passes))
 
@@ -67,10 +66,10 @@ taken-run room run t = cases (ltb room payloadMax) (flaggedBytes (betweenFlags r
     cases false true t = subst (λ (l : List ℕ). Taken (readRun l)) (between-flags run) t
     cases false false t = absurd t
 
-pub not-both-taken : (sent arrived : List ℕ) → Bytes sent → Bytes arrived → PairDamaged sent arrived → (room room₁ : ℕ)
+pub not-both-taken : (sent arrived : List ℕ) → PairDamaged sent arrived → (room room₁ : ℕ)
     → Taken (readFrame room (betweenFlags sent)) → Taken (readFrame room₁ (betweenFlags arrived)) → ⊥
-not-both-taken sent arrived bytes bytes₁ damage room room₁ t t₁ =
-    damaged-run sent arrived bytes bytes₁ damage (taken-run room sent t) (taken-run room₁ arrived t₁)
+not-both-taken sent arrived damage room room₁ t t₁ =
+    damaged-run sent arrived damage (taken-run room sent t) (taken-run room₁ arrived t₁)
 
 -- a call that tells of a frame took it
 told : (string before : List ℕ) (kind sequence n : ℕ) (after : List ℕ) → Reads string before (read.Frame kind sequence n) after
@@ -82,9 +81,9 @@ told string before kind sequence n after r = cases (readFrame (length before) st
     cases (refused m) e = impossible cc
 
 -- THEOREM (02, C-19). Of two frames that are damaged so, not both are taken by calls of `read_frame`.
-pub damaged-frame : (sent arrived : List ℕ) → Bytes sent → Bytes arrived → PairDamaged sent arrived
+pub damaged-frame : (sent arrived : List ℕ) → PairDamaged sent arrived
     → (out after out₁ after₁ : List ℕ) (kind sequence n kind₁ sequence₁ n₁ : ℕ)
     → Reads (betweenFlags sent) out (read.Frame kind sequence n) after → Reads (betweenFlags arrived) out₁ (read.Frame kind₁ sequence₁ n₁) after₁ → ⊥
-damaged-frame sent arrived bytes bytes₁ damage out after out₁ after₁ kind sequence n kind₁ sequence₁ n₁ r r₁ =
-    not-both-taken sent arrived bytes bytes₁ damage (length out) (length out₁)
+damaged-frame sent arrived damage out after out₁ after₁ kind sequence n kind₁ sequence₁ n₁ r r₁ =
+    not-both-taken sent arrived damage (length out) (length out₁)
     (told (betweenFlags sent) out kind sequence n after r) (told (betweenFlags arrived) out₁ kind₁ sequence₁ n₁ after₁ r₁)

@@ -4,6 +4,7 @@ use mathlib.Core.Path.{_≡_}
 use mathlib.Core.List.{List, [], _∷_, _++_}
 use lib.Dec.{eqb}
 use lib.ListN.{length, getD}
+use Rattle.slices.specs.Bits.{Bytes}
 use Rattle.frame.specs.Content.{Read, frame, refused}
 use Rattle.frame.specs.Stuffing.{escapeByte, stuff}
 
@@ -15,6 +16,8 @@ EscapesStay sent arrived = (i : ℕ) → eqb (getD sent i 0) escapeByte ≡ eqb 
 -- behind those of `before`; and there every 7d stands in its place. (02 asks the same of every 7e. It need not be asked: a string with a 7e
 -- between its flags is not taken.)
 pub record PairDamaged (sent arrived : List ℕ) : Type 0 where
+  pub bytes : Bytes sent
+  pub other-bytes : Bytes arrived
   pub before : List ℕ
   pub first : ℕ
   pub second : ℕ

@@ -9,7 +9,6 @@ use lib.Bits.{bitXor}
 use lib.Dec.{ltb}
 use lib.ListN.{length, take}
 use Rattle.refusals.specs.Numbers.{shortOutput, longPayload}
-use Rattle.slices.specs.Bits.{Bytes}
 use Rattle.slices.specs.ExclusiveOr.{xorOf}
 use Rattle.slices.specs.Put.{putAt}
 use Rattle.slices.specs.Written as writing
@@ -141,10 +140,10 @@ module _ (kind sequence : ℕ) (payload before : List ℕ) (report : ℕ) (after
 
 -- THEOREM (02, C-19). Of two frames that differ, and only within the sent bytes of two neighbouring content bytes with every 7d in its place, not
 -- both are reported without a refusal.
-pub damaged-frame : (sent arrived : List ℕ) → Bytes sent → Bytes arrived → PairDamaged sent arrived → (out after out₁ after₁ : List ℕ) (report report₁ : ℕ)
+pub damaged-frame : (sent arrived : List ℕ) → PairDamaged sent arrived → (out after out₁ after₁ : List ℕ) (report report₁ : ℕ)
     → Reads (betweenFlags sent) out report after → Reads (betweenFlags arrived) out₁ report₁ after₁ → refusalIn report ≡ 0 → refusalIn report₁ ≡ 0 → ⊥
-damaged-frame sent arrived bytes bytes₁ damage out after out₁ after₁ report report₁ r r₁ none none₁ =
-    not-both-taken sent arrived bytes bytes₁ damage (length out) (length out₁) (reported (betweenFlags sent) out report after r none)
+damaged-frame sent arrived damage out after out₁ after₁ report report₁ r r₁ none none₁ =
+    not-both-taken sent arrived damage (length out) (length out₁) (reported (betweenFlags sent) out report after r none)
     (reported (betweenFlags arrived) out₁ report₁ after₁ r₁ none₁)
   where
     reported : (string before : List ℕ) (report : ℕ) (after : List ℕ) → Reads string before report after → refusalIn report ≡ 0

@@ -32,3 +32,4 @@ pub mod CurrentWhen
 pub mod RefusedFrames
 pub mod ShortCalls
 pub mod RefusedPackets
+pub mod DamagedFrames

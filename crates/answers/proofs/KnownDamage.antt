@@ -31,6 +31,11 @@ bytes (byte ∷ more) e i = by-first (ltb byte 0x100) refl e i (bytes more)
     by-first true f e (suc i) rest = rest e i
     by-first false f e i rest = impossible cc
 
+-- the bits of two bytes
+high-bit-first : bitsOf (0x01 ∷ 0xc0 ∷ []) ≡ false ∷ false ∷ false ∷ false ∷ false ∷ false ∷ false ∷ true ∷ true ∷ true ∷ false ∷ false ∷ false ∷ false ∷ false ∷ false ∷ []
+unfolding bitsOf lowBits
+high-bit-first = refl
+
 -- the content of 01's case 6, whose value 00 00 0d 7a is 3450
 abbrev case-6 : List ℕ
 case-6 = 0x01 ∷ 0x00 ∷ 0x01 ∷ 0x03 ∷ 0x00 ∷ 0x00 ∷ 0x01 ∷ 0x02 ∷ 0x68 ∷ 0x31 ∷ 0x16 ∷ 0x04 ∷ 0x00 ∷ 0x00 ∷ 0x0d ∷ 0x7a ∷ 0x1a ∷ 0xa4 ∷ []

@@ -9,7 +9,7 @@ use native.Mathlib.Omega.{arith}
 use lib.Bits.{bitXor, xor-shifted, xor-zero-r}
 use lib.ListN.{length}
 use Rattle.slices.specs.Bits.{lowBits, bitsOf, Bytes}
-use Rattle.slices.proofs.BitLaws.{digit, inDigits, digits-small, digits-up, low-length, low-digits}
+use Rattle.slices.proofs.DigitLaws.{digit, inDigits, digits-small, digits-up, low-length, low-digits}
 use Rattle.slices.proofs.XorLaws.{xor-assoc, xor-added}
 use Rattle.crc.specs.Crc.{shiftBit, shiftBits, addByte, crcOf}
 use Rattle.crc.proofs.CrcLaws.{shift-low}

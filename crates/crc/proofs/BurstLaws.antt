@@ -10,7 +10,8 @@ use lib.Bits.{bitXor, xor-lt, xor-self, xor-comm}
 use lib.ListN.{length}
 use Rattle.slices.specs.Bits.{bitsOf, Bytes}
 use Rattle.slices.specs.Difference.{DifferWithin}
-use Rattle.slices.proofs.BitLaws.{inDigits, digits-small, same-digits, bits-differ}
+use Rattle.slices.proofs.BitLaws.{bits-differ}
+use Rattle.slices.proofs.DigitLaws.{inDigits, digits-small, same-digits}
 use Rattle.slices.proofs.XorLaws.{xor-none, xor-added}
 use Rattle.crc.specs.Crc.{polynomial, shiftBit, shiftBits, crcOf}
 use Rattle.crc.specs.Burst.{burstBits, Burst}

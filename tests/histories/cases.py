@@ -184,6 +184,10 @@ def cases():
     yield "damage_makes_a_flag", names(b"h1") + received(case_6) + received(
         replaced(again, b"\x01\x02\x68", b"\x7e\x02\x68")), [
         REPLY, "h1 current 3450 0"] + counts(new=1, refused=(0, 0, 0, 2, 0, 0))
+    # 92 damaged to 7e: behind it the payload's end and the check are a whole acknowledgement.
+    yield "damage_makes_a_frame", names(b"h1") + received(
+        replaced(frame(1, 3, b"\x9a\x92\x02\x01"), b"\x92", b"\x7e")), [
+        "h1 never"] + counts(heard=1, refused=(0, 0, 1, 0, 0, 0))
 
     yield "age_29", names(b"h1") + received(case_6) + TICK * 29, [
         REPLY, "h1 current 3450 29"] + counts(new=1)

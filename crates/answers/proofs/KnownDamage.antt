@@ -1,6 +1,5 @@
--- 02, C-19, on frames that can be looked at: there is damage as the theorems have it, and one more bit, or an escape byte that is made, is more
--- than the check covers.
-use mathlib.Core.Path.{_≡_, refl, ap}
+-- 02, C-19, on contents that can be looked at: there is damage within 16 adjacent bits, and it is seen; one bit more is more than the check covers.
+use mathlib.Core.Path.{_≡_, refl}
 use mathlib.Core.Bool.{Bool, true, false, _&&_}
 use mathlib.Core.List.{List, [], _∷_}
 use Prim.Native.Nat.{ℕ, zero, suc, _<_}
@@ -12,16 +11,11 @@ use borrow.Author.Tests.{ltb-true}
 use Rattle.slices.proofs.Impossible.{impossible}
 use Rattle.slices.specs.Bits.{lowBits, bitsOf, Bytes}
 use Rattle.slices.specs.Difference.{DifferWithin}
-use Rattle.slices.specs.Each.{each}
 use Rattle.crc.specs.Burst.{Burst}
 use Rattle.crc.specs.Crc.{linkStart, shiftBit, shiftBits, addByte, crcOf}
-use Rattle.frame.specs.Content.{payloadMax, frame, refused}
-use Rattle.frame.specs.Damage.{EscapesStay, PairDamaged}
-use Rattle.frame.specs.Reading.{firstFlag, flaggedBytes, readFrame}
-use Rattle.frame.specs.Writing.{betweenFlags}
-use Rattle.answers.proofs.Steps.{frame-steps}
 
-bytes : (string : List ℕ) → areBytes string ≡ true → Bytes string
+-- a string whose bytes were computed to be bytes
+pub bytes : (string : List ℕ) → areBytes string ≡ true → Bytes string
 bytes [] e i = omega arith
 bytes (byte ∷ more) e i = by-first (ltb byte 0x100) refl e i (bytes more)
   where
@@ -32,16 +26,16 @@ bytes (byte ∷ more) e i = by-first (ltb byte 0x100) refl e i (bytes more)
     by-first false f e i rest = impossible cc
 
 -- the bits of two bytes
-high-bit-first : bitsOf (0x01 ∷ 0xc0 ∷ []) ≡ false ∷ false ∷ false ∷ false ∷ false ∷ false ∷ false ∷ true ∷ true ∷ true ∷ false ∷ false ∷ false ∷ false ∷ false ∷ false ∷ []
+pub high-bit-first : bitsOf (0x01 ∷ 0xc0 ∷ []) ≡ false ∷ false ∷ false ∷ false ∷ false ∷ false ∷ false ∷ true ∷ true ∷ true ∷ false ∷ false ∷ false ∷ false ∷ false ∷ false ∷ []
 unfolding bitsOf lowBits
 high-bit-first = refl
 
 -- the content of 01's case 6, whose value 00 00 0d 7a is 3450
-abbrev case-6 : List ℕ
+abbrev pub case-6 : List ℕ
 case-6 = 0x01 ∷ 0x00 ∷ 0x01 ∷ 0x03 ∷ 0x00 ∷ 0x00 ∷ 0x01 ∷ 0x02 ∷ 0x68 ∷ 0x31 ∷ 0x16 ∷ 0x04 ∷ 0x00 ∷ 0x00 ∷ 0x0d ∷ 0x7a ∷ 0x1a ∷ 0xa4 ∷ []
 
 -- damaged within the 16 bits from the fourth bit of its value on
-abbrev burst-16 : List ℕ
+abbrev pub burst-16 : List ℕ
 burst-16 = 0x01 ∷ 0x00 ∷ 0x01 ∷ 0x03 ∷ 0x00 ∷ 0x00 ∷ 0x01 ∷ 0x02 ∷ 0x68 ∷ 0x31 ∷ 0x16 ∷ 0x04 ∷ 0x13 ∷ 0x86 ∷ 0x2d ∷ 0x7a ∷ 0x1a ∷ 0xa4 ∷ []
 
 -- damaged within 17 bits, by the polynomial with its highest bit, 1 10 21: the value 00 01 1d 5b is 73051
@@ -88,47 +82,3 @@ seventeen-bits = (
   },
   refl,
 )
-
--- the run of 01's case 1, and damaged in its two escaped bytes: 7d 5d 7d 5e has become 7d 5e 7d 5d
-abbrev case-1 : List ℕ
-case-1 = 0x02 ∷ 0x01 ∷ 0x7a ∷ 0x7b ∷ 0x7c ∷ 0x7d ∷ 0x5d ∷ 0x7d ∷ 0x5e ∷ 0x9f ∷ 0xfa ∷ []
-
-abbrev swapped : List ℕ
-swapped = 0x02 ∷ 0x01 ∷ 0x7a ∷ 0x7b ∷ 0x7c ∷ 0x7d ∷ 0x5e ∷ 0x7d ∷ 0x5d ∷ 0x9f ∷ 0xfa ∷ []
-
-escapes-stay : EscapesStay (0x7d ∷ 0x5d ∷ 0x7d ∷ 0x5e ∷ []) (0x7d ∷ 0x5e ∷ 0x7d ∷ 0x5d ∷ [])
-escapes-stay zero = refl
-escapes-stay (suc zero) = refl
-escapes-stay (suc (suc zero)) = refl
-escapes-stay (suc (suc (suc zero))) = refl
-escapes-stay (suc (suc (suc (suc i)))) = refl
-
-pub pair-damaged : PairDamaged case-1 swapped
-unfolding each
-pair-damaged =
-    record {
-      bytes = bytes case-1 refl;
-      other-bytes = bytes swapped refl;
-      before = 0x02 ∷ 0x01 ∷ 0x7a ∷ 0x7b ∷ 0x7c ∷ [];
-      first = 0x7d;
-      second = 0x7e;
-      other = 0x7d ∷ 0x5e ∷ 0x7d ∷ 0x5d ∷ [];
-      behind = 0x9f ∷ 0xfa ∷ [];
-      as-sent = refl;
-      as-arrived = refl;
-      same-length = refl;
-      differ = λ e. let second : _≡_ {A = ℕ} 0x5d 0x5e = ap (λ (sent : List ℕ). getD sent 1 0) e in omega arith;
-      escapes-stay = escapes-stay;
-    }
-
-pub pair-seen : (readFrame payloadMax (betweenFlags case-1) ≡ frame 0x02 0x01 (0x7a ∷ 0x7b ∷ 0x7c ∷ 0x7d ∷ 0x7e ∷ []))
-    × (readFrame payloadMax (betweenFlags swapped) ≡ refused 4)
-unfolding frame-steps readFrame flaggedBytes firstFlag
-pair-seen = (refl, refl)
-
--- where 50 3a becomes 7d 5e an escape byte is made, and both frames are taken
-pub escape-made :
-    (readFrame payloadMax (betweenFlags (0x01 ∷ 0x05 ∷ 0x42 ∷ 0x50 ∷ 0x3a ∷ 0x43 ∷ 0x27 ∷ 0x24 ∷ [])) ≡ frame 0x01 0x05 (0x42 ∷ 0x50 ∷ 0x3a ∷ 0x43 ∷ []))
-    × (readFrame payloadMax (betweenFlags (0x01 ∷ 0x05 ∷ 0x42 ∷ 0x7d ∷ 0x5e ∷ 0x43 ∷ 0x27 ∷ 0x24 ∷ [])) ≡ frame 0x01 0x05 (0x42 ∷ 0x7e ∷ 0x43 ∷ []))
-unfolding frame-steps readFrame flaggedBytes firstFlag
-escape-made = (refl, refl)

@@ -2,6 +2,7 @@ pub mod KnownAnswers
 pub mod KnownAshFrames
 pub mod KnownChecks
 pub mod KnownDamage
+pub mod KnownDamagedFrames
 pub mod KnownRuns
 pub mod KnownValues
 pub mod PacketVerdicts

@@ -20,9 +20,9 @@ abbrev pub addBits : ℕ → List Bool → ℕ
 addBits r [] = r
 addBits r (bit ∷ bits) = addBits (shiftBit (bitXor r (digit bit * 0x8000))) bits
 
-pub bits-append : (r : ℕ) (xs ys : List Bool) → addBits r (xs ++ ys) ≡ addBits (addBits r xs) ys
-bits-append r [] ys = refl
-bits-append r (x ∷ xs) ys = bits-append (shiftBit (bitXor r (digit x * 0x8000))) xs ys
+pub add-append : (r : ℕ) (xs ys : List Bool) → addBits r (xs ++ ys) ≡ addBits (addBits r xs) ys
+add-append r [] ys = refl
+add-append r (x ∷ xs) ys = add-append (shiftBit (bitXor r (digit x * 0x8000))) xs ys
 
 -- up to 16 bits are added to the register at once, and shifted out
 pub at-once : (bits : List Bool) (r : ℕ) → length bits ≤ 16 → addBits r bits ≡ shiftBits (length bits) (bitXor r (inDigits 16 bits))
@@ -56,4 +56,4 @@ unfolding crcOf bitsOf
 crc-bits r [] h = refl
 crc-bits r (byte ∷ bytes) h =
     crc-bits (addByte r byte) bytes (λ i. h (suc i)) ∙ ap (λ (q : ℕ). addBits q (bitsOf bytes)) (sym (byte-bits r byte (h 0)))
-    ∙ sym (bits-append r (lowBits 8 byte) (bitsOf bytes))
+    ∙ sym (add-append r (lowBits 8 byte) (bitsOf bytes))

@@ -15,7 +15,7 @@ use Rattle.slices.proofs.DigitLaws.{inDigits, digits-small, same-digits}
 use Rattle.slices.proofs.XorLaws.{xor-none, xor-added}
 use Rattle.crc.specs.Crc.{polynomial, shiftBit, shiftBits, crcOf}
 use Rattle.crc.specs.Burst.{burstBits, Burst}
-use Rattle.crc.proofs.BitByBit.{addBits, bits-append, at-once, moved-on, crc-bits}
+use Rattle.crc.proofs.BitByBit.{addBits, add-append, at-once, moved-on, crc-bits}
 use Rattle.crc.proofs.LinearLaws.{shift-sum, shifts-xor}
 
 shift-small : (r : ℕ) → shiftBit r < 0x10000
@@ -52,7 +52,7 @@ window r xs ys behind same short =
     let other : length ys ≤ 16 = omega arith in
     let number : ℕ = inDigits 16 xs in
     let number₁ : ℕ = inDigits 16 ys in
-    ap₂ bitXor (bits-append r xs behind) (bits-append r ys behind) ∙ moved-on behind (addBits r xs) (addBits r ys)
+    ap₂ bitXor (add-append r xs behind) (add-append r ys behind) ∙ moved-on behind (addBits r xs) (addBits r ys)
     ∙ ap (shiftBits (length behind))
     (ap₂ bitXor (at-once xs r short) (at-once ys r other ∙ ap (λ (n : ℕ). shiftBits n (bitXor r number₁)) (sym same))
     ∙ sym (shifts-xor (length xs) (bitXor r number) (bitXor r number₁))
@@ -70,8 +70,8 @@ same-window r xs ys behind same short e =
 
 bits-seen : (r : ℕ) (xs ys : List Bool) → DifferWithin burstBits xs ys → addBits r xs ≡ addBits r ys → ⊥
 bits-seen r xs ys d e =
-    let first = ap (addBits r) (d .first) ∙ bits-append r (d .before) (d .part ++ d .behind) in
-    let second = ap (addBits r) (d .second) ∙ bits-append r (d .before) (d .other ++ d .behind) in
+    let first = ap (addBits r) (d .first) ∙ add-append r (d .before) (d .part ++ d .behind) in
+    let second = ap (addBits r) (d .second) ∙ add-append r (d .before) (d .other ++ d .behind) in
     d .differ (same-window (addBits r (d .before)) (d .part) (d .other) (d .behind) (d .same-length) (d .adjacent) (sym first ∙ e ∙ second))
 
 -- the checks of two strings that differ, and only within 16 adjacent bits, differ

@@ -17,7 +17,7 @@ pub record Joined (v : ℕ) (found : Unstuffed) (c : List ℕ) : Type 0 where
   pub is : found ≡ content rest
   pub whole : c ≡ v ∷ rest
 
-pub joined-content : (v : ℕ) (found : Unstuffed) (c : List ℕ) → joined v found ≡ content c → Joined v found c
+joined-content : (v : ℕ) (found : Unstuffed) (c : List ℕ) → joined v found ≡ content c → Joined v found c
 joined-content v (content d) c e = record { rest = d; is = refl; whole = let same : c ≡ v ∷ d = cc in same }
 joined-content v (refused n) c e = impossible cc
 

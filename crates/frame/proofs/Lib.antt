@@ -10,6 +10,7 @@ pub mod ReadLaws
 pub mod WriteLaws
 pub mod StuffTheorems
 pub mod FrameTheorems
+pub mod InPlace
 pub mod DamageLaws
 pub mod DamagedFrames
 pub mod FrameCalls

@@ -62,9 +62,9 @@ module _ (n : ℕ) where
       by-unstuffed (stuffing.content c) f e = judged-number c e
 
   -- the whole-frame reader also refuses by 7
-  pub frame-number : (room : ℕ) (bytes : List ℕ) → readFrame room bytes ≡ refused n → (1 ≤ n) × (n ≤ 7)
+  pub reader-number : (room : ℕ) (bytes : List ℕ) → readFrame room bytes ≡ refused n → (1 ≤ n) × (n ≤ 7)
   unfolding readFrame
-  frame-number room bytes e = by-tests (ltb room payloadMax) (flaggedBytes bytes) e
+  reader-number room bytes e = by-tests (ltb room payloadMax) (flaggedBytes bytes) e
     where
       by-tests : (t u : Bool) → cond t (refused shortOutput) (cond u (readRun (between bytes)) (refused badFraming)) ≡ refused n → (1 ≤ n) × (n ≤ 7)
       by-tests true u e = let same : 7 ≡ n = cc in omega arith

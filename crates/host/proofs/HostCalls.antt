@@ -19,16 +19,12 @@ use Rattle.crc.specs.Burst.{Burst}
 use Rattle.crc.specs.Crc.{crcOf, checkBytes}
 use Rattle.crc.proofs.CrcLaws.{crc-checked}
 use Rattle.crc.proofs.CheckCalls as check
-use Rattle.frame.specs.Content as content
 use Rattle.frame.specs.Content.{payloadMax, frame}
-use Rattle.frame.specs.Damage.{PairDamaged, Taken}
-use Rattle.frame.specs.Writing.{betweenFlags, frameOf, writeContent, writeFrame}
+use Rattle.frame.specs.Writing.{frameOf, writeContent, writeFrame}
 use Rattle.frame.specs.Reading.{readFrame}
 use Rattle.frame.specs.Answers.{readPayload}
 use Rattle.frame.proofs.FrameTheorems.{written-length, wrote-frame, written-read-back, written-bounded}
 use Rattle.frame.proofs.FrameCalls.{sentLength, is-written}
-use Rattle.frame.proofs.DamagedFrames.{not-both-taken}
-use Rattle.frame.proofs.RefusalLaws.{frame-number}
 use Rattle.host.specs.Report.{refusalIn, lengthIn, Parts, reportOf, readReport, writtenReport, ReportsRead, ReportsWritten}
 use Rattle.host.proofs.ReportLaws.{parts-read}
 use Rattle.host.proofs.arznavik_crc.Reads as crc
@@ -53,7 +49,7 @@ was-written : {kind sequence : ℕ} {payload before : List ℕ} {report : ℕ} {
     → ReportsWritten (writeFrame (length before) kind sequence payload) before report after
 was-written w = rw (w .input-lent .holds, w .output-lent .holds, w .output-left .holds) at (w .learnt)
 
-was-read : {bytes before : List ℕ} {report : ℕ} {after : List ℕ} → Reads bytes before report after
+pub was-read : {bytes before : List ℕ} {report : ℕ} {after : List ℕ} → Reads bytes before report after
     → ReportsRead (readFrame (length before) bytes) before report after
 was-read r = rw (r .input-lent .holds, r .output-lent .holds, r .output-left .holds) at (r .learnt)
 
@@ -137,22 +133,6 @@ module _ (kind sequence : ℕ) (payload before : List ℕ) (report : ℕ) (after
       let is = is-written kind sequence payload before short room in
       let did = was-written w in
       (did .reports ∙ ap writtenReport is ∙ ap (reportOf 0 0 0) (written-length kind sequence payload), did .frame ∙ rw is)
-
--- THEOREM (02, C-19). Of two frames that differ, and only within the sent bytes of two neighbouring content bytes with every 7d in its place, not
--- both are reported without a refusal.
-pub damaged-frame : (sent arrived : List ℕ) → PairDamaged sent arrived → (out after out₁ after₁ : List ℕ) (report report₁ : ℕ)
-    → Reads (betweenFlags sent) out report after → Reads (betweenFlags arrived) out₁ report₁ after₁ → refusalIn report ≡ 0 → refusalIn report₁ ≡ 0 → ⊥
-damaged-frame sent arrived damage out after out₁ after₁ report report₁ r r₁ none none₁ =
-    not-both-taken sent arrived damage (length out) (length out₁) (reported (betweenFlags sent) out report after r none)
-    (reported (betweenFlags arrived) out₁ report₁ after₁ r₁ none₁)
-  where
-    reported : (string before : List ℕ) (report : ℕ) (after : List ℕ) → Reads string before report after → refusalIn report ≡ 0
-        → Taken (readFrame (length before) string)
-    reported string before report after r none = cases (readFrame (length before) string) refl (was-read r .reports)
-      where
-        cases : (found : content.Read) → readFrame (length before) string ≡ found → report ≡ readReport found → Taken found
-        cases (content.frame kind sequence payload) f e = tt
-        cases (content.refused n) f e = let known = frame-number n (length before) string f in absurd (omega (arith, known .0, known .1))
 
 -- Such calls are there for all that can be lent, since the contracts ask nothing.
 pub all-bytes-are-checked : (start : ℕ) (bytes : List ℕ) → Checks start bytes (crcOf start bytes)

@@ -1,2 +1,3 @@
 pub mod ReportLaws
 pub mod HostCalls
+pub mod DamagedFrames

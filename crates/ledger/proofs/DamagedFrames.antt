@@ -1,5 +1,5 @@
--- 02, C-19, of the display: a good frame that the line damages within the sent bytes of two neighbouring content bytes, so that no 7e is made and every
--- 7d stays in its place, is refused.
+-- 02, C-19, of the display: a good frame that the line damages within the sent bytes of two neighbouring content bytes, every 7d in its place, or within
+-- 16 adjacent bits of its content, is refused, if no 7e is made.
 use mathlib.Core.Path.{_≡_, refl, sym, ap, _∙_}
 use mathlib.Core.Bool.{Bool, true, false, cond}
 use mathlib.Core.List.{List, [], _∷_, _++_, append-assoc, append-nil}
@@ -7,14 +7,12 @@ use mathlib.Core.Option.{Option, some}
 use Prim.Native.Nat.{ℕ, suc, _≤_, _<_}
 use native.Mathlib.Omega.{arith}
 use lib.Dec.{eqb}
-use lib.ListN.{length, length-append}
-use Rattle.frame.specs.Content as content
-use Rattle.frame.specs.Damage as reading
-use Rattle.frame.specs.Damage.{PairDamaged}
+use lib.ListN.{length}
+use Rattle.frame.specs.Content as frame
+use Rattle.frame.specs.Damage.{Damaged, IsTaken}
 use Rattle.frame.specs.Reading.{firstFlag, readRun}
-use Rattle.frame.specs.Stuffing.{flagByte, stuff}
-use Rattle.frame.proofs.DamagedFrames.{damaged-run}
-use Rattle.frame.proofs.StuffTheorems.{stuffed-length}
+use Rattle.frame.specs.Stuffing.{flagByte}
+use Rattle.frame.proofs.DamagedFrames.{damaged-run, damaged-some}
 use Rattle.display.specs.declared.Answer.{Answer}
 use Rattle.display.specs.declared.Answer.the-variants.{Refused}
 use Rattle.display.specs.declared.Display.{Display}
@@ -30,12 +28,12 @@ use Rattle.ledger.proofs.EveryList.{Agreeing, agreeing, next-call}
 use Rattle.ledger.proofs.RoomLaws.{with-room}
 
 -- a run without a flag, behind some bytes, is closed by the flag behind it
-run-closes : (held run : List ℕ) (n : ℕ) → firstFlag run ≡ length run → 0 < length (held ++ run)
+flag-closes : (held run : List ℕ) (n : ℕ) → firstFlag run ≡ length run → 0 < length (held ++ run)
     → taken (some held) (run ++ (flagByte ∷ [])) n .frame ≡ some (held ++ run)
 unfolding taken turn firstFlag
-run-closes [] [] n e h = absurd (omega arith)
-run-closes (x ∷ xs) [] n e h = ap some (sym (append-nil (x ∷ xs)))
-run-closes held (b ∷ bs) n e h = by-byte (eqb b flagByte) e (run-closes (held ++ (b ∷ [])) bs (suc n))
+flag-closes [] [] n e h = absurd (omega arith)
+flag-closes (x ∷ xs) [] n e h = ap some (sym (append-nil (x ∷ xs)))
+flag-closes held (b ∷ bs) n e h = by-byte (eqb b flagByte) e (flag-closes (held ++ (b ∷ [])) bs (suc n))
   where
     longer : held ++ (b ∷ []) ++ bs ≡ held ++ (b ∷ bs)
     longer = append-assoc held (b ∷ []) bs
@@ -48,26 +46,18 @@ run-closes held (b ∷ bs) n e h = by-byte (eqb b flagByte) e (run-closes (held 
     by-byte true e rest = absurd (omega arith)
     by-byte false e rest = rest (omega arith) (omega (arith, ap length longer)) ∙ ap some longer
 
--- a damaged run has bytes
-not-empty : (sent arrived : List ℕ) → PairDamaged sent arrived → 0 < length arrived
-not-empty sent arrived d =
-    let pair = d .first ∷ d .second ∷ [] in
-    let whole = ap length (d .as-arrived) in
-    let same = d .same-length in
-    omega (arith, whole, same, length-append (stuff (d .before)) (d .other ++ d .behind), length-append (d .other) (d .behind), stuffed-length pair)
-
 -- a run that is not taken is a refused frame
 record IsRefused (run : List ℕ) : Type 0 where
   number : ℕ
   is : frameOf run ≡ frames.refused number
 
-not-taken : (run : List ℕ) → (reading.Taken (readRun run) → ⊥) → IsRefused run
+not-taken : (run : List ℕ) → (IsTaken (readRun run) → ⊥) → IsRefused run
 unfolding frameOf
 not-taken run wrong = cases (readRun run) refl wrong
   where
-    cases : (found : content.Read) → readRun run ≡ found → (reading.Taken found → ⊥) → IsRefused run
-    cases (content.frame kind sequence payload) e wrong = absurd (wrong tt)
-    cases (content.refused n) e wrong = record { number = n; is = ap frames.byType e }
+    cases : (found : frame.Read) → readRun run ≡ found → (IsTaken found → ⊥) → IsRefused run
+    cases (frame.frame kind sequence payload) e wrong = absurd (wrong tt)
+    cases (frame.refused n) e wrong = record { number = n; is = ap frames.byType e }
 
 -- the answer is a refusal
 pub record RefusedAs (answer : Answer) : Type 0 where
@@ -75,8 +65,8 @@ pub record RefusedAs (answer : Answer) : Type 0 where
   pub is : answer ≡ Refused number
 
 module _ (names : List (List ℕ)) (cs : List Call) (left : List Left) (end : Display) (a : Agreeing names cs left end)
-    (at-flag : after (start names) cs .line .run ≡ some []) (sent arrived : List ℕ) (damage : PairDamaged sent arrived)
-    (no-flag : firstFlag arrived ≡ length arrived) (good : reading.Taken (readRun sent)) where
+    (at-flag : after (start names) cs .line .run ≡ some []) (sent arrived : List ℕ) (damage : Damaged sent arrived)
+    (no-flag : firstFlag arrived ≡ length arrived) (good : IsTaken (readRun sent)) where
   abbrev l : Ledger
   l = after (start names) cs
 
@@ -88,7 +78,7 @@ module _ (names : List (List ℕ)) (cs : List Call) (left : List Left) (end : Di
 
   closes : t .frame ≡ some arrived
   closes =
-      ap (λ (run : Option (List ℕ)). taken run string 0 .frame) at-flag ∙ run-closes [] arrived 0 no-flag (not-empty sent arrived damage)
+      ap (λ (run : Option (List ℕ)). taken run string 0 .frame) at-flag ∙ flag-closes [] arrived 0 no-flag (damaged-some sent arrived damage)
 
   refusal : IsRefused arrived
   refusal = not-taken arrived (damaged-run sent arrived damage good)
@@ -109,7 +99,7 @@ module _ (names : List (List ℕ)) (cs : List Call) (left : List Left) (end : Di
 -- a refusal. (What it leaves as it was: ledger/proofs/RefusedFrames.)
 pub damaged-refused : (names : List (List ℕ)) (w : WatchList) → namesIn w ≡ some names → (d : Display) → Begins w d
     → (cs : List Call) (left : List Left) (end : Display) → Chain d cs left end → after (start names) cs .line .run ≡ some []
-    → (sent arrived : List ℕ) → PairDamaged sent arrived → firstFlag arrived ≡ length arrived → reading.Taken (readRun sent)
+    → (sent arrived : List ℕ) → Damaged sent arrived → firstFlag arrived ≡ length arrived → IsTaken (readRun sent)
     → (reply packet : List ℕ) → replyRoom ≤ length reply → packetRoom ≤ length packet → (count : ℕ) (answer : Answer) (reply₁ packet₁ : List ℕ) (end₁ : Display)
     → Chain end (piece (arrived ++ (flagByte ∷ [])) reply packet ∷ []) (took count answer reply₁ packet₁ ∷ []) end₁ → RefusedAs answer
 damaged-refused names w listed d begins cs left end chain at-flag sent arrived damage no-flag good reply packet r p count answer reply₁ packet₁ end₁ next =

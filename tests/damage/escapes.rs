@@ -11,12 +11,16 @@ pub const ESCAPED: [u8; 10] = [0x7e, 1, 5, 0x42, 0x7d, 0x5e, 0x43, 0x27, 0x24, 0
 const PLAIN_PAYLOAD: [u8; 4] = [0x42, 0x50, 0x3a, 0x43];
 const ESCAPED_PAYLOAD: [u8; 3] = [0x42, 0x7e, 0x43];
 
-/// All such damage to two neighbouring bytes between a frame's flags: how many damaged frames were
-/// tried, and those of them that are taken.
-pub struct Made {
-    pub tried: u64,
-    pub taken: Vec<Vec<u8>>,
-}
+/// With two neighbouring bytes damaged so, these alone are taken for it.
+const TAKEN_FOR_PLAIN: [[u8; 10]; 1] = [ESCAPED];
+const TAKEN_FOR_ESCAPED: [[u8; 10]; 2] = [
+    [0x7e, 1, 5, 0xa8, 0x0c, 0x5e, 0x43, 0x27, 0x24, 0x7e],
+    PLAIN,
+];
+
+/// Each of the two frames, and what is taken for it.
+pub const FRAMES: [([u8; 10], &[[u8; 10]]); 2] =
+    [(PLAIN, &TAKEN_FOR_PLAIN), (ESCAPED, &TAKEN_FOR_ESCAPED)];
 
 pub fn spaced(bytes: &[u8]) -> String {
     let bytes: Vec<String> = bytes.iter().map(|byte| format!("{byte:02x}")).collect();
@@ -52,21 +56,37 @@ fn makes_or_unmakes(sent: &[u8], received: &[u8]) -> bool {
     })
 }
 
-pub fn all(frame: &[u8]) -> Result<Made, String> {
-    let mut made = Made {
-        tried: 0,
-        taken: Vec::new(),
-    };
-    for place in 1..frame.len() - 2 {
+/// A frame with these bytes at two neighbouring places.
+fn with_two(frame: &[u8], place: usize, two: [u8; 2]) -> Vec<u8> {
+    [&frame[..place], &two, &frame[place + 2..]].concat()
+}
+
+/// All frames that such damage to two neighbouring bytes between the flags makes of this one, each
+/// once: damage to one byte alone is tried with the byte behind it, if there is one.
+fn damaged(frame: &[u8]) -> impl Iterator<Item = Vec<u8>> + '_ {
+    let last = frame.len() - 3;
+    (1..=last).flat_map(move |place| {
         let two = &frame[place..place + 2];
         let others = (0..=u16::MAX).map(u16::to_be_bytes);
-        for other in others.filter(|other| makes_or_unmakes(two, other)) {
-            let damaged = [&frame[..place], &other, &frame[place + 2..]].concat();
-            made.tried += 1;
-            if read_by_both(&damaged)?.is_ok() {
-                made.taken.push(damaged);
-            }
+        others
+            .filter(move |other| other[0] != two[0] || place == last)
+            .filter(|other| makes_or_unmakes(two, other))
+            .map(move |other| with_two(frame, place, other))
+    })
+}
+
+/// How many were tried. Those that are taken have to be these.
+pub fn all(frame: &[u8], wanted: &[[u8; 10]]) -> Result<u64, String> {
+    let mut tried = 0;
+    let mut taken = Vec::new();
+    for received in damaged(frame) {
+        tried += 1;
+        if read_by_both(&received)?.is_ok() {
+            taken.push(received);
         }
     }
-    Ok(made)
+    if taken != wanted {
+        return Err(format!("frame {}: {taken:x?} are taken", spaced(frame)));
+    }
+    Ok(tried)
 }

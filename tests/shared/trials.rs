@@ -46,7 +46,7 @@ impl<Class: Copy + Debug + PartialEq> Trials<Class> {
         mut run: impl FnMut() -> Result<Class, String>,
     ) {
         for number in 0..times {
-            if self.failures == FAILURES_SHOWN {
+            if self.failures >= FAILURES_SHOWN {
                 return;
             }
             self.note(&format!("{input} {number}"), run());
@@ -71,7 +71,7 @@ impl<Class: Copy + Debug + PartialEq> Trials<Class> {
     ) -> u64 {
         let mut answered = 0;
         for each in inputs {
-            if self.failures == FAILURES_SHOWN {
+            if self.failures >= FAILURES_SHOWN {
                 break;
             }
             answered += self.note_many(input, run(&each));

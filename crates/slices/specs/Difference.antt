@@ -4,8 +4,7 @@ use mathlib.Core.Path.{_≡_}
 use mathlib.Core.List.{List, _++_}
 use lib.ListN.{length}
 
--- They are of equal length and differ, and only within so many adjacent elements: these are others, and what stands before them and behind
--- them is the same.
+-- They are of equal length and differ, and only within so many adjacent elements: what stands before these and behind them is the same.
 pub record DifferWithin {A : Type 0} (size : ℕ) (xs ys : List A) : Type 0 where
   pub before : List A
   pub part : List A

@@ -1,11 +1,11 @@
 -- 02, C-19, on contents that can be looked at: there is damage within 16 adjacent bits, and it is seen; one bit more is more than the check covers.
-use mathlib.Core.Path.{_≡_, refl}
+use mathlib.Core.Path.{_≡_, refl, sym, _∙_}
 use mathlib.Core.Bool.{Bool, true, false, _&&_}
-use mathlib.Core.List.{List, [], _∷_}
-use Prim.Native.Nat.{ℕ, zero, suc, _<_}
+use mathlib.Core.List.{List, [], _∷_, _++_}
+use Prim.Native.Nat.{ℕ, zero, suc, _+_, _<_}
 use native.Mathlib.Omega.{arith}
 use lib.Dec.{ltb}
-use lib.ListN.{take, drop, getD}
+use lib.ListN.{length, take, drop, getD}
 use lib.Pow.{areBytes}
 use borrow.Author.Tests.{ltb-true}
 use Rattle.slices.proofs.Impossible.{impossible}
@@ -42,6 +42,23 @@ burst-16 = 0x01 ∷ 0x00 ∷ 0x01 ∷ 0x03 ∷ 0x00 ∷ 0x00 ∷ 0x01 ∷ 0x02 �
 abbrev burst-17 : List ℕ
 burst-17 = 0x01 ∷ 0x00 ∷ 0x01 ∷ 0x03 ∷ 0x00 ∷ 0x00 ∷ 0x01 ∷ 0x02 ∷ 0x68 ∷ 0x31 ∷ 0x16 ∷ 0x04 ∷ 0x00 ∷ 0x01 ∷ 0x1d ∷ 0x5b ∷ 0x1a ∷ 0xa4 ∷ []
 
+-- that two strings of bits differ only within the size bits from a place on is computed
+within : (size place : ℕ) (xs ys : List Bool) → xs ≡ take place xs ++ (take size (drop place xs) ++ drop (place + size) xs)
+    → ys ≡ take place xs ++ (take size (drop place ys) ++ drop (place + size) xs) → length (take size (drop place xs)) ≡ size
+    → length (take size (drop place ys)) ≡ size → (take size (drop place xs) ≡ take size (drop place ys) → ⊥) → DifferWithin size xs ys
+within size place xs ys first second bits other-bits differ =
+    record {
+      before = take place xs;
+      part = take size (drop place xs);
+      other = take size (drop place ys);
+      behind = drop (place + size) xs;
+      first = first;
+      second = second;
+      same-length = bits ∙ sym other-bits;
+      adjacent = omega (arith, bits);
+      differ = differ;
+    }
+
 -- the damage is there, and seen
 pub sixteen-bits : Burst case-6 burst-16 × (crcOf linkStart case-6 ≡ 0) × (crcOf linkStart burst-16 ≡ 0x0c7f)
 unfolding bitsOf lowBits crcOf addByte shiftBits shiftBit
@@ -49,17 +66,7 @@ sixteen-bits = (
   record {
     bytes = bytes case-6 refl;
     other-bytes = bytes burst-16 refl;
-    damage = record {
-      before = take 99 (bitsOf case-6);
-      part = take 16 (drop 99 (bitsOf case-6));
-      other = take 16 (drop 99 (bitsOf burst-16));
-      behind = drop 115 (bitsOf case-6);
-      first = refl;
-      second = refl;
-      same-length = refl;
-      adjacent = omega arith;
-      differ = λ e. impossible cc;
-    };
+    damage = within 16 99 (bitsOf case-6) (bitsOf burst-16) refl refl refl refl (λ e. impossible cc);
   },
   refl,
   refl,
@@ -68,17 +75,4 @@ sixteen-bits = (
 -- and by 17 bits not: both pass
 pub seventeen-bits : DifferWithin 17 (bitsOf case-6) (bitsOf burst-17) × (crcOf linkStart burst-17 ≡ 0)
 unfolding bitsOf lowBits crcOf addByte shiftBits shiftBit
-seventeen-bits = (
-  record {
-    before = take 111 (bitsOf case-6);
-    part = take 17 (drop 111 (bitsOf case-6));
-    other = take 17 (drop 111 (bitsOf burst-17));
-    behind = drop 128 (bitsOf case-6);
-    first = refl;
-    second = refl;
-    same-length = refl;
-    adjacent = omega arith;
-    differ = λ e. impossible cc;
-  },
-  refl,
-)
+seventeen-bits = (within 17 111 (bitsOf case-6) (bitsOf burst-17) refl refl refl refl (λ e. impossible cc), refl)

@@ -6,12 +6,12 @@ use crate::sent::is_flag_or_escape;
 
 /// A frame, and the same with two neighbouring bytes damaged so that they are an escape. Both are
 /// taken, with type 01 and sequence 05.
-pub const PLAIN: [u8; 10] = [0x7e, 1, 5, 0x42, 0x50, 0x3a, 0x43, 0x27, 0x24, 0x7e];
-pub const ESCAPED: [u8; 10] = [0x7e, 1, 5, 0x42, 0x7d, 0x5e, 0x43, 0x27, 0x24, 0x7e];
+const PLAIN: [u8; 10] = [0x7e, 1, 5, 0x42, 0x50, 0x3a, 0x43, 0x27, 0x24, 0x7e];
+const ESCAPED: [u8; 10] = [0x7e, 1, 5, 0x42, 0x7d, 0x5e, 0x43, 0x27, 0x24, 0x7e];
 const PLAIN_PAYLOAD: [u8; 4] = [0x42, 0x50, 0x3a, 0x43];
 const ESCAPED_PAYLOAD: [u8; 3] = [0x42, 0x7e, 0x43];
 
-/// With two neighbouring bytes damaged so, these alone are taken for it.
+/// What is taken for each of them, with one byte or two neighbouring bytes damaged in this way.
 const TAKEN_FOR_PLAIN: [[u8; 10]; 1] = [ESCAPED];
 const TAKEN_FOR_ESCAPED: [[u8; 10]; 2] = [
     [0x7e, 1, 5, 0xa8, 0x0c, 0x5e, 0x43, 0x27, 0x24, 0x7e],
@@ -61,8 +61,8 @@ fn with_two(frame: &[u8], place: usize, two: [u8; 2]) -> Vec<u8> {
     [&frame[..place], &two, &frame[place + 2..]].concat()
 }
 
-/// All frames that such damage to two neighbouring bytes between the flags makes of this one, each
-/// once: damage to one byte alone is tried with the byte behind it, if there is one.
+/// All frames that such damage to one byte or two neighbouring bytes between the flags makes of
+/// this one, each once: a byte alone is damaged as the first of two, only the last one as the second.
 fn damaged(frame: &[u8]) -> impl Iterator<Item = Vec<u8>> + '_ {
     let last = frame.len() - 3;
     (1..=last).flat_map(move |place| {

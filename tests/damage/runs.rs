@@ -121,8 +121,8 @@ pub fn flags_and_escapes_made() -> Result<([Class; 1], u64), String> {
     for (frame, taken) in escapes::FRAMES {
         let damaged = escapes::all(&frame, taken)?;
         println!(
-            "  of {damaged} damages to two neighbouring bytes of {}\n  \
-             that make or unmake a 7d or 7e these are taken:",
+            "  of {damaged} ways to damage one byte or two neighbouring bytes of {}\n  \
+             so that a 7d or 7e is made or unmade these are taken:",
             spaced(&frame)
         );
         for frame in taken {

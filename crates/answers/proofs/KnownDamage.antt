@@ -13,6 +13,8 @@ use Rattle.slices.specs.Bits.{lowBits, bitsOf, Bytes}
 use Rattle.slices.specs.Difference.{DifferWithin}
 use Rattle.crc.specs.Burst.{Burst}
 use Rattle.crc.specs.Crc.{linkStart, shiftBit, shiftBits, addByte, crcOf}
+use Rattle.frame.specs.Reading.{between}
+use Rattle.answers.specs.Table.{frame6}
 
 -- a string whose bytes were computed to be bytes
 pub bytes : (string : List ℕ) → areBytes string ≡ true → Bytes string
@@ -30,9 +32,9 @@ pub high-bit-first : bitsOf (0x01 ∷ 0xc0 ∷ []) ≡ false ∷ false ∷ false
 unfolding bitsOf lowBits
 high-bit-first = refl
 
--- the content of 01's case 6, whose value 00 00 0d 7a is 3450
+-- the content of 01's case 6, in which no byte is escaped; its value 00 00 0d 7a is 3450
 abbrev pub case-6 : List ℕ
-case-6 = 0x01 ∷ 0x00 ∷ 0x01 ∷ 0x03 ∷ 0x00 ∷ 0x00 ∷ 0x01 ∷ 0x02 ∷ 0x68 ∷ 0x31 ∷ 0x16 ∷ 0x04 ∷ 0x00 ∷ 0x00 ∷ 0x0d ∷ 0x7a ∷ 0x1a ∷ 0xa4 ∷ []
+case-6 = between frame6
 
 -- damaged within the 16 bits from the fourth bit of its value on
 abbrev pub burst-16 : List ℕ

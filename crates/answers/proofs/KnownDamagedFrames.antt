@@ -1,5 +1,5 @@
--- 02, C-19, on frames that can be looked at: two are damaged as the theorems have it, and the display refuses the second; an escape byte that is made is
--- more than the check covers.
+-- 02, C-19, on frames that can be looked at: there is damage of each kind, the reader sees it and the display refuses it; an escape byte that is made
+-- is more than the check covers.
 use mathlib.Core.Path.{_≡_, refl, ap}
 use mathlib.Core.List.{List, [], _∷_, _++_}
 use mathlib.Core.Logic.{inr}
@@ -9,7 +9,7 @@ use lib.ListN.{getD, replicate}
 use Rattle.slices.specs.Each.{each}
 use Rattle.frame.specs.Content.{payloadMax, frame, refused}
 use Rattle.frame.specs.Damage.{EscapesStay, PairDamaged, BurstDamaged}
-use Rattle.frame.specs.Reading.{firstFlag, flaggedBytes, readFrame}
+use Rattle.frame.specs.Reading.{firstFlag, flaggedBytes, between, readFrame}
 use Rattle.frame.specs.Writing.{betweenFlags}
 use Rattle.display.specs.declared.Answer.{Answer}
 use Rattle.display.specs.declared.Display.{Display}
@@ -17,12 +17,13 @@ use Rattle.ledger.specs.Answers.{one-by-one, Call, piece}
 use Rattle.ledger.specs.Shown.{Left, took}
 use Rattle.ledger.proofs.Chain.{Begins, Chain}
 use Rattle.ledger.proofs.DamagedFrames.{RefusedAs, damaged-refused}
+use Rattle.answers.specs.Table.{letters, frame1, h1}
 use Rattle.answers.proofs.KnownDamage.{bytes, case-6, burst-16, sixteen-bits}
 use Rattle.answers.proofs.Steps.{frame-steps, ledger-steps}
 
 -- the run of 01's case 1, and damaged in its two escaped bytes: 7d 5d 7d 5e has become 7d 5e 7d 5d
 abbrev case-1 : List ℕ
-case-1 = 0x02 ∷ 0x01 ∷ 0x7a ∷ 0x7b ∷ 0x7c ∷ 0x7d ∷ 0x5d ∷ 0x7d ∷ 0x5e ∷ 0x9f ∷ 0xfa ∷ []
+case-1 = between frame1
 
 abbrev swapped : List ℕ
 swapped = 0x02 ∷ 0x01 ∷ 0x7a ∷ 0x7b ∷ 0x7c ∷ 0x7d ∷ 0x5e ∷ 0x7d ∷ 0x5d ∷ 0x9f ∷ 0xfa ∷ []
@@ -52,7 +53,7 @@ pair-damaged =
       escapes-stay = escapes-stay;
     }
 
-pub pair-seen : (readFrame payloadMax (betweenFlags case-1) ≡ frame 0x02 0x01 (0x7a ∷ 0x7b ∷ 0x7c ∷ 0x7d ∷ 0x7e ∷ []))
+pub pair-seen : (readFrame payloadMax (betweenFlags case-1) ≡ frame 0x02 0x01 letters)
     × (readFrame payloadMax (betweenFlags swapped) ≡ refused 4)
 unfolding frame-steps readFrame flaggedBytes firstFlag
 pair-seen = (refl, refl)
@@ -64,7 +65,7 @@ pub escape-made :
 unfolding frame-steps readFrame flaggedBytes firstFlag
 escape-made = (refl, refl)
 
--- case 6 and its damage within 16 bits, as they are sent: no byte is escaped
+-- case 6 and its damage within 16 bits, as they are sent: no byte of either is escaped
 pub burst-damaged : BurstDamaged case-6 burst-16
 unfolding frame-steps
 burst-damaged = record { sent-content = case-6; arrived-content = burst-16; as-sent = refl; as-arrived = refl; burst = sixteen-bits .0 }
@@ -73,7 +74,7 @@ abbrev call : List ℕ → Call
 call string = piece string (replicate 9 0) (replicate 383 0)
 
 abbrev names : List (List ℕ)
-names = (0x68 ∷ 0x31 ∷ []) ∷ []
+names = h1 ∷ []
 
 -- THEOREM. Every display that watches h1 and is given a flag, then case 6 so damaged and its closing flag, refuses it.
 pub display-refuses : (d end end₁ : Display) (left : List Left) (count : ℕ) (answer : Answer) (reply packet : List ℕ) → Begins (one-by-one names) d

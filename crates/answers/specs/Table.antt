@@ -47,22 +47,22 @@ abbrev given : ℕ → Result → Result → Case
 given number computed answer = record { number = number; computed = computed; answer = answer }
 
 -- the payload of case 1
-abbrev letters : List ℕ
+abbrev pub letters : List ℕ
 letters = 0x7a ∷ 0x7b ∷ 0x7c ∷ 0x7d ∷ 0x7e ∷ []
 
 -- the frame of case 1
-abbrev frame1 : List ℕ
+abbrev pub frame1 : List ℕ
 frame1 = 0x7e ∷ 0x02 ∷ 0x01 ∷ 0x7a ∷ 0x7b ∷ 0x7c ∷ 0x7d ∷ 0x5d ∷ 0x7d ∷ 0x5e ∷ 0x9f ∷ 0xfa ∷ 0x7e ∷ []
 
 -- the names h1 and h2
-abbrev h1 : List ℕ
+abbrev pub h1 : List ℕ
 h1 = 0x68 ∷ 0x31 ∷ []
 
 abbrev h2 : List ℕ
 h2 = 0x68 ∷ 0x32 ∷ []
 
 -- the frame of case 6
-abbrev frame6 : List ℕ
+abbrev pub frame6 : List ℕ
 frame6 =
     0x7e ∷ 0x01 ∷ 0x00 ∷ 0x01 ∷ 0x03 ∷ 0x00 ∷ 0x00 ∷ 0x01 ∷ 0x02 ∷ 0x68 ∷ 0x31 ∷ 0x16 ∷ 0x04 ∷ 0x00 ∷ 0x00 ∷ 0x0d ∷ 0x7a ∷ 0x1a ∷ 0xa4 ∷ 0x7e ∷ []
 

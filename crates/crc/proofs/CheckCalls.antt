@@ -1,6 +1,6 @@
 -- What 02 promises of calls of the check, by the contracts that the toolchain reads off the source (`Learnt`): the two laws of C-24, the
--- sentence of C-15 on the tabled check, and the damage of C-19. A contract that says less breaks them. They hold for each start value and for strings of any length,
--- empty ones too.
+-- sentence of C-15 on the tabled check, and C-19's on damage. A contract that says less breaks them. They hold for each start value and
+-- for strings of any length, empty ones too.
 use mathlib.Core.Path.{_≡_, refl, sym, ap, ap₂, _∙_}
 use mathlib.Core.List.{List, _++_}
 use Prim.Native.Nat.{ℕ}

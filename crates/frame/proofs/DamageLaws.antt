@@ -30,7 +30,7 @@ past (b ∷ bs) rest held c e =
     let more : held + suc (length bs) ≡ suc held + length bs = omega arith in
     record { left = p .left; whole = j .whole ∙ ap (λ (l : List ℕ). b ∷ l) (p .whole); is = ap (λ (n : ℕ). unstuffFrom plain n rest) more ∙ p .is }
 
--- two of them
+-- two neighbouring bytes of content whose sent bytes may be damaged: in their places stand two bytes
 record PairInPlace (first second held : ℕ) (other behind c : List ℕ) : Type 0 where
   value : ℕ
   value₁ : ℕ

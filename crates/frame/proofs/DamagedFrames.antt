@@ -11,7 +11,7 @@ use lib.ListN.{length, getD, length-append}
 use borrow.Author.Tests.{eqb-true}
 use Rattle.refusals.specs.Numbers.{badFraming, shortOutput, shortContent, badCheck}
 use Rattle.slices.specs.Bits.{bitsOf}
-use Rattle.slices.proofs.BitLaws.{differ-some}
+use Rattle.slices.proofs.DifferenceLaws.{differ-some}
 use Rattle.crc.specs.Burst.{burstBits}
 use Rattle.crc.specs.Crc.{linkStart, crcOf}
 use Rattle.crc.proofs.BurstLaws.{burst-seen, pair-burst}
@@ -76,7 +76,7 @@ as-burst sent arrived damage p q =
           (contents-differ sent arrived (p .c) (q .c) damage (p .unstuffed) (q .unstuffed));
     }
 
--- THEOREM (02, C-19). Of two runs of sent bytes that are damaged so, not both are taken.
+-- THEOREM (02, C-19). Of two runs of sent bytes, one damaged to the other in either way, not both are taken.
 pub damaged-run : (sent arrived : List ℕ) → Damaged sent arrived → IsTaken (readRun sent) → IsTaken (readRun arrived) → ⊥
 damaged-run sent arrived (inl pair) taken taken₁ =
     burst-run sent arrived (as-burst sent arrived pair (passed sent taken) (passed arrived taken₁)) taken taken₁
@@ -128,7 +128,8 @@ told string before kind sequence n after r = cases (readFrame (length before) st
     cases (frame k q p) e = tt
     cases (refused m) e = impossible cc
 
--- THEOREM (02, C-19). Of two frames that are damaged so, not both are taken by calls of `read_frame`.
+-- THEOREM (02, C-19). Of two frames that differ, and only within the sent bytes of two neighbouring content bytes with every 7d in its place, not
+-- both are taken by calls of `read_frame`; nor of two whose contents differ, and only within 16 adjacent bits.
 pub damaged-frame : (sent arrived : List ℕ) → Damaged sent arrived
     → (out after out₁ after₁ : List ℕ) (kind sequence n kind₁ sequence₁ n₁ : ℕ)
     → Reads (betweenFlags sent) out (read.Frame kind sequence n) after → Reads (betweenFlags arrived) out₁ (read.Frame kind₁ sequence₁ n₁) after₁ → ⊥

@@ -68,13 +68,3 @@ bits-differ size xs ys h k d =
   where
     three : (before part behind : List ℕ) → bitsOf (before ++ (part ++ behind)) ≡ bitsOf before ++ (bitsOf part ++ bitsOf behind)
     three before part behind = bits-append before (part ++ behind) ∙ ap (λ (bits : List Bool). bitsOf before ++ bits) (bits-append part behind)
-
--- what differs has elements
-pub differ-some : {A : Type 0} (size : ℕ) (xs ys : List A) → DifferWithin size xs ys → 0 < length ys
-differ-some {A = A} size xs ys d = cases (d .part) (d .other) (d .same-length) (d .differ) (ap length (d .second))
-  where
-    cases : (part other : List A) → length part ≡ length other → (part ≡ other → ⊥) → length ys ≡ length (d .before ++ (other ++ d .behind)) → 0 < length ys
-    cases [] [] same differ whole = absurd (differ refl)
-    cases [] (y ∷ other) same differ whole = absurd (omega arith)
-    cases (x ∷ part) other same differ whole =
-        omega (arith, whole, same, length-append (d .before) (other ++ d .behind), length-append other (d .behind))

@@ -1,4 +1,5 @@
 pub mod BitLaws
+pub mod DifferenceLaws
 pub mod DigitLaws
 pub mod EachLaws
 pub mod EachPut

@@ -16,7 +16,7 @@
 #define CONTENT_CRC plain_crc
 #endif
 
-#define ROWS 16
+#define ROWS 40
 #define NAME_MAX_LENGTH 27
 #define STREAM_MAX 65536
 #define NUMBER_BYTES 4

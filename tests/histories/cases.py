@@ -111,6 +111,13 @@ def numbered(count):
     return names(*(b"hive%d" % number for number in range(1, count + 1)))
 
 
+def updated(*numbers):
+    """An update of each of these hives, whose value is its number."""
+    return b"".join(
+        received(frame(1, 0, packet(item(1, b"hive%d" % number), integer(number, 1))))
+        for number in numbers)
+
+
 def cases():
     case_6 = bytes.fromhex("7e01000103000001026831160400000d7a1aa47e")
     again = frame(1, 1, UPDATE)
@@ -204,8 +211,14 @@ def cases():
 
     yield "name_of_27", names(b"h" * 27), ["h" * 27 + " never"] + counts()
     yield "name_of_28", *broken(names(b"h" * 28))
-    yield "names_16", numbered(16), [f"hive{n} never" for n in range(1, 17)] + counts()
-    yield "names_17", *broken(numbered(17))
+    for most in 16, 17, 40:
+        yield f"names_{most}", numbered(most), [f"hive{n} never" for n in range(1, most + 1)] + counts()
+    yield "names_41", *broken(numbered(41))
+    # The first row and the last, and those on either side of a display's of sixteen rows.
+    yield "forty_hives", numbered(40) + updated(1, 17) + TICK + updated(16, 40) + TICK * 29, [
+        REPLY, REPLY, REPLY, REPLY, "hive1 silent"] + [f"hive{n} never" for n in range(2, 16)] + [
+        "hive16 current 16 29", "hive17 silent"] + [f"hive{n} never" for n in range(18, 40)] + [
+        "hive40 current 40 29"] + counts(new=4)
 
     yield "bad_name", *broken(names(b"1h"))
     yield "name_twice", *broken(names(b"h1", b"h2", b"h1"))

@@ -5,7 +5,8 @@ use crate::board::Board;
 use crate::frame::{enclose, read_frame, FLAG, PAYLOAD_MAX};
 use crate::packet::is_name;
 
-const NAMES_MAX: usize = 16;
+/// Request C-20.
+const NAMES_MAX: usize = 40;
 const FIELD_MAX: usize = 4096;
 
 #[derive(Default)]

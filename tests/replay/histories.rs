@@ -3,9 +3,12 @@
 use crate::frame::{enclose, ESCAPE, FLAG};
 use crate::random::Random;
 
-const NAMES: [&str; 20] = [
+/// More than a display takes, so that those that are not watched are names too.
+const NAMES: [&str; 46] = [
     "h1", "h2", "H1", "h", "h10", "hive_3", "hive-4", "a", "b", "c", "d", "e", "f", "g", "i", "j", "k",
-    "l", "abcdefghijklmnopqrstuvwxyz1", "m",
+    "l", "abcdefghijklmnopqrstuvwxyz1", "m", "n", "o", "p", "q", "r", "s", "t", "u", "v", "w", "x", "y",
+    "z", "A", "B", "C", "D", "E", "F", "h17", "h40", "h41", "hive-40", "hive-41",
+    "abcdefghijklmnopqrstuvwxyz2", "Abcdefghijklmnopqrstuvwxyz1",
 ];
 
 /// Names that are not valid, the first of them by its length alone.
@@ -72,9 +75,9 @@ pub fn field(history: &mut Vec<u8>, tag: u8, value: &[u8]) {
     history.extend(value);
 }
 
-/// Up to seventeen names, each once.
+/// Up to 41 names, each once.
 fn watched(random: &mut Random) -> Vec<Vec<u8>> {
-    let count = random.one_of(&[0, 1, 1, 2, 2, 2, 3, 3, 3, 4, 5, 5, 7, 9, 16, 16, 17]);
+    let count = random.one_of(&[0, 1, 1, 2, 2, 2, 3, 3, 3, 4, 5, 5, 7, 9, 16, 17, 39, 40, 40, 41]);
     let first = random.below(NAMES.len());
     let names = NAMES.iter().cycle().skip(first).take(count);
     names.map(|name| name.as_bytes().to_vec()).collect()
@@ -180,6 +183,7 @@ impl Sender {
         }
         let name = match self.names.as_slice() {
             [] => NAMES[0].as_bytes(),
+            [.., last] if random.below(6) == 0 => last,
             names => &names[random.below(names.len())],
         };
         item(&mut packet, 0x01, name);

@@ -3,7 +3,7 @@
 
 /// A sight, and of a hundred histories those that must show it. The generator gives about twice as
 /// many.
-const SIGHTS: [(&str, u64); 20] = [
+const SIGHTS: [(&str, u64); 24] = [
     ("reply", 43),
     ("never", 18),
     ("current", 31),
@@ -12,6 +12,10 @@ const SIGHTS: [(&str, u64); 20] = [
     ("age 29", 1),
     ("silent", 13),
     ("current and silent", 7),
+    ("current from row 17 on", 5),
+    ("silent from row 17 on", 3),
+    ("current in row 40", 2),
+    ("forty rows", 4),
     ("sequence from ff to 00", 7),
     ("again", 32),
     ("heard", 27),
@@ -114,11 +118,20 @@ fn shown(output: &str) -> Vec<&'static str> {
         return shown;
     }
     let rows = &lines[replies.len()..lines.len() - 2];
-    let state = |name: &str| rows.iter().any(|row| row.split(' ').nth(1) == Some(name));
+    // Whether a row is in a state, of those from a number on.
+    let from = |first: usize, name: &str| {
+        let mut rows = rows.iter().skip(first - 1);
+        rows.any(|row| row.split(' ').nth(1) == Some(name))
+    };
+    let state = |name: &str| from(1, name);
     see("never", state("never"));
     see("current", state("current"));
     see("silent", state("silent"));
     see("current and silent", state("current") && state("silent"));
+    see("current from row 17 on", from(17, "current"));
+    see("silent from row 17 on", from(17, "silent"));
+    see("current in row 40", from(40, "current"));
+    see("forty rows", rows.len() == 40);
     see(
         "current and negative",
         rows.iter().any(|row| row.contains("current -")),

@@ -3,6 +3,7 @@ pub mod KnownAshFrames
 pub mod KnownChecks
 pub mod KnownDamage
 pub mod KnownDamagedFrames
+pub mod KnownLists
 pub mod KnownRuns
 pub mod KnownValues
 pub mod PacketVerdicts

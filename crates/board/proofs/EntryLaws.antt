@@ -34,24 +34,24 @@ pub showing-watched : (es : List Entry) → Fits (map entryName es) → watched 
 showing-watched es h =
     rw (showing-names es (rows-named es h)) (used-first (map entryName es) (rowCount - length es) (none-empty (map entryName es) h))
 
--- 01, The board: of a list that is accepted each name is valid, none stands twice, and there are no more than rows
-names-good : (skip : ℕ) (names : List (List ℕ)) (rest : List ℕ) (out : List (List ℕ)) → Good rowCount names → namesFrom rowCount skip names rest ≡ some out → Good rowCount out
+-- 01, The board: of a list that is accepted each name is valid, none stands twice, and there are no more than the limit
+names-good : {limit : ℕ} (skip : ℕ) (names : List (List ℕ)) (rest : List ℕ) (out : List (List ℕ)) → Good limit names → namesFrom limit skip names rest ≡ some out → Good limit out
 unfolding namesFrom
 names-good zero names [] out o e = let same : names ≡ out = cc in rw (← same) o
 names-good zero names (tag ∷ []) out o e = impossible cc
 names-good zero names (tag ∷ high ∷ []) out o e = impossible cc
-names-good zero names (tag ∷ high ∷ low ∷ rest) out o e =
-    cases (isWhole tag (pairOf high low) rest && mayJoin rowCount names (take (pairOf high low) rest)) refl
+names-good {limit} zero names (tag ∷ high ∷ low ∷ rest) out o e =
+    cases (isWhole tag (pairOf high low) rest && mayJoin limit names (take (pairOf high low) rest)) refl
     (λ more next. names-good (pairOf high low) (names ++ (take (pairOf high low) rest ∷ [])) rest out more next) e
   where
-    cases : (t : Bool) → (isWhole tag (pairOf high low) rest && mayJoin rowCount names (take (pairOf high low) rest)) ≡ t → (Good rowCount (names ++ (take (pairOf high low) rest ∷ [])) → namesFrom rowCount (pairOf high low) (names ++ (take (pairOf high low) rest ∷ [])) rest ≡ some out → Good rowCount out) → cond t (namesFrom rowCount (pairOf high low) (names ++ (take (pairOf high low) rest ∷ [])) rest) none ≡ some out → Good rowCount out
+    cases : (t : Bool) → (isWhole tag (pairOf high low) rest && mayJoin limit names (take (pairOf high low) rest)) ≡ t → (Good limit (names ++ (take (pairOf high low) rest ∷ [])) → namesFrom limit (pairOf high low) (names ++ (take (pairOf high low) rest ∷ [])) rest ≡ some out → Good limit out) → cond t (namesFrom limit (pairOf high low) (names ++ (take (pairOf high low) rest ∷ [])) rest) none ≡ some out → Good limit out
     cases true h below e =
-        below (good-more names (take (pairOf high low) rest) o (both (isWhole tag (pairOf high low) rest) (mayJoin rowCount names (take (pairOf high low) rest)) h .second)) e
+        below (good-more names (take (pairOf high low) rest) o (both (isWhole tag (pairOf high low) rest) (mayJoin limit names (take (pairOf high low) rest)) h .second)) e
     cases false h below e = impossible cc
 names-good (suc skip) names [] out o e = impossible cc
 names-good (suc skip) names (byte ∷ rest) out o e = names-good skip names rest out o e
 
-pub list-good : (fields : List ℕ) (names : List (List ℕ)) → watchNames rowCount fields ≡ some names → Good rowCount names
+pub list-good : {limit : ℕ} (fields : List ℕ) (names : List (List ℕ)) → watchNames limit fields ≡ some names → Good limit names
 list-good fields names e = names-good 0 [] fields names good-none e
 
 -- an accepted update has a row to change

@@ -23,19 +23,19 @@ use Rattle.board.proofs.NameLaws.{good-more}
 use Rattle.board.proofs.WatchLaws.{watch-more, accepted-joins, refused-stays}
 
 -- the bytes of a name that has joined are passed over
-skipped : (n : ℕ) (names : List (List ℕ)) (rest : List ℕ) → n ≤ length rest → namesFrom rowCount n names rest ≡ namesFrom rowCount 0 names (drop n rest)
+skipped : (limit : ℕ) (n : ℕ) (names : List (List ℕ)) (rest : List ℕ) → n ≤ length rest → namesFrom limit n names rest ≡ namesFrom limit 0 names (drop n rest)
 unfolding namesFrom
-skipped zero names rest h = refl
-skipped (suc n) names [] h = absurd (omega arith)
-skipped (suc n) names (byte ∷ rest) h = skipped n names rest (omega arith)
+skipped limit zero names rest h = refl
+skipped limit (suc n) names [] h = absurd (omega arith)
+skipped limit (suc n) names (byte ∷ rest) h = skipped limit n names rest (omega arith)
 
 -- where the fields begin with no whole name, the list is refused
-pub field-bad : (names : List (List ℕ)) (rest : List ℕ) → 0 < length rest → fieldOf rest ≡ none → namesFrom rowCount 0 names rest ≡ none
+pub field-bad : (limit : ℕ) (names : List (List ℕ)) (rest : List ℕ) → 0 < length rest → fieldOf rest ≡ none → namesFrom limit 0 names rest ≡ none
 unfolding namesFrom fieldOf
-field-bad names [] h e = absurd (omega arith)
-field-bad names (tag ∷ []) h e = refl
-field-bad names (tag ∷ high ∷ []) h e = refl
-field-bad names (tag ∷ high ∷ low ∷ rest) h e =
+field-bad limit names [] h e = absurd (omega arith)
+field-bad limit names (tag ∷ []) h e = refl
+field-bad limit names (tag ∷ high ∷ []) h e = refl
+field-bad limit names (tag ∷ high ∷ low ∷ rest) h e =
     rw (cut (isWhole tag (pairOf high low) rest) (pairOf high low) e)
   where
     cut : (t : Bool) (size : ℕ) → cond t (some size) none ≡ none → t ≡ false
@@ -58,17 +58,17 @@ field-size (tag ∷ high ∷ low ∷ rest) size e =
     omega arith
 
 -- 01, The board: the name joins, and the rest of the list is read by the same rule
-pub field-next : (names : List (List ℕ)) (fields : List ℕ) (size : ℕ) → fieldOf fields ≡ some size → namesFrom rowCount 0 names fields ≡ cond (mayJoin rowCount names (take size (drop 3 fields))) (namesFrom rowCount 0 (names ++ (take size (drop 3 fields) ∷ [])) (drop (size + 3) fields)) none
+pub field-next : (limit : ℕ) (names : List (List ℕ)) (fields : List ℕ) (size : ℕ) → fieldOf fields ≡ some size → namesFrom limit 0 names fields ≡ cond (mayJoin limit names (take size (drop 3 fields))) (namesFrom limit 0 (names ++ (take size (drop 3 fields) ∷ [])) (drop (size + 3) fields)) none
 unfolding fieldOf namesFrom
-field-next names [] size e = impossible cc
-field-next names (tag ∷ []) size e = impossible cc
-field-next names (tag ∷ high ∷ []) size e = impossible cc
-field-next names (tag ∷ high ∷ low ∷ rest) size e =
+field-next limit names [] size e = impossible cc
+field-next limit names (tag ∷ []) size e = impossible cc
+field-next limit names (tag ∷ high ∷ []) size e = impossible cc
+field-next limit names (tag ∷ high ∷ low ∷ rest) size e =
     let w = whole (isWhole tag (pairOf high low) rest) (pairOf high low) size e in
     let all : pairOf high low ≤ length rest = leb-true (pairOf high low) (length rest) (both (eqb tag 0x01) (leb (pairOf high low) (length rest)) (w .0) .second) in
     let past : size + 3 ≡ suc (suc (suc size)) = omega arith in
     let fits : size ≤ length rest = omega (arith, w .1) in
-    rw (w .0, w .1, past, skipped size (names ++ (take size rest ∷ [])) rest fits)
+    rw (w .0, w .1, past, skipped limit size (names ++ (take size rest ∷ [])) rest fits)
 
 -- the field by its bytes
 pub field-short : (fields : List ℕ) → length fields < 3 → fieldOf fields ≡ none
@@ -111,13 +111,13 @@ module _ (fields : List ℕ) (board : Board) (at : ℕ) (r : Reached fields boar
   pub reached-bad : at < length fields → fieldOf (drop at fields) ≡ none → watchNames rowCount fields ≡ none
   reached-bad more bad =
       let left : 0 < length (drop at fields) = simp length-drop (omega arith) in
-      sym (r .still) ∙ field-bad (r .names) (drop at fields) left bad
+      sym (r .still) ∙ field-bad rowCount (r .names) (drop at fields) left bad
 
   -- so does a name that is refused
   pub reached-refused : (size number : ℕ) → fieldOf (drop at fields) ≡ some size → watchBoard rowCount board (nameAt fields at size) .answer ≡ Refused number → watchNames rowCount fields ≡ none
   reached-refused size number field refused =
       let stays = refused-stays (r .names) (nameAt fields at size) number (r .good) (rw (r .is) at refused) in
-      sym (r .still) ∙ field-next (r .names) (drop at fields) size field ∙ rw stays
+      sym (r .still) ∙ field-next rowCount (r .names) (drop at fields) size field ∙ rw stays
 
   -- one that is accepted is the next of the names
   pub reached-next : (size : ℕ) → fieldOf (drop at fields) ≡ some size → watchBoard rowCount board (nameAt fields at size) .answer ≡ Accepted → Reached fields (watchBoard rowCount board (nameAt fields at size) .board) (at + (size + 3))
@@ -125,7 +125,7 @@ module _ (fields : List ℕ) (board : Board) (at : ℕ) (r : Reached fields boar
       let name = nameAt fields at size in
       let joins = accepted-joins (r .names) name (r .good) (rw (r .is) at accepted) in
       let fits = field-size (drop at fields) size field in
-      let next = sym (field-next (r .names) (drop at fields) size field) ∙ r .still in
+      let next = sym (field-next rowCount (r .names) (drop at fields) size field) ∙ r .still in
       let rest : drop (size + 3) (drop at fields) ≡ drop (at + (size + 3)) fields = drop-drop (size + 3) at fields in
       record {
         within = omega (arith, length-drop at fields);

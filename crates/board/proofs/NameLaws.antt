@@ -13,7 +13,7 @@ use Rattle.slices.proofs.PutLaws.{put-first}
 use Rattle.rows.specs.Names.{placeFrom, isIn}
 use Rattle.slices.proofs.TestLaws.{both}
 use Rattle.packet.proofs.NameLaws.{name-size}
-use Rattle.rows.specs.Rows.{rowCount, nameRoom, rowName, watched, freshRow, boardOf}
+use Rattle.rows.specs.Rows.{nameRoom, rowName, watched, freshRow, boardOf}
 use Rattle.board.specs.WatchList.{Good, allValid, distinct, mayJoin}
 use Rattle.rows.proofs.NameLaws.{NoneEmpty, used-first, not-in, in-more, differ}
 
@@ -45,9 +45,9 @@ fresh-names [] (suc k) h = ap (λ r. [] ∷ r) (fresh-names [] k h)
 fresh-names (name ∷ names) k h = ap₂ (λ p q. p ∷ q) (fresh-name name (h .0)) (fresh-names names k (h .1))
 
 -- the board of names that fit watches these names
-pub watched-names : (names : List (List ℕ)) → Fits names → watched (boardOf rowCount names) ≡ names
-watched-names names h =
-    rw (fresh-names names (rowCount - length names) h) (used-first names (rowCount - length names) (none-empty names h))
+pub watched-names : (limit : ℕ) (names : List (List ℕ)) → Fits names → watched (boardOf limit names) ≡ names
+watched-names limit names h =
+    rw (fresh-names names (limit - length names) h) (used-first names (limit - length names) (none-empty names h))
 
 -- names of a watch list fit
 pub good-fits : (names : List (List ℕ)) → allValid names ≡ true → Fits names
@@ -56,15 +56,15 @@ good-fits [] h = tt
 good-fits (name ∷ names) h =
     (valid-fit name (both (validName name) (allValid names) h .first), good-fits names (both (validName name) (allValid names) h .second))
 
-pub good-none : Good rowCount []
+pub good-none : {limit : ℕ} → Good limit []
 unfolding allValid distinct
 good-none = record { valid = refl; once = refl; few = omega arith }
 
-pub join-few : (names : List (List ℕ)) (name : List ℕ) → mayJoin rowCount names name ≡ true → length names < rowCount
+pub join-few : {limit : ℕ} (names : List (List ℕ)) (name : List ℕ) → mayJoin limit names name ≡ true → length names < limit
 unfolding mayJoin
-join-few names name h =
-    let test = not (isIn name names) && ltb (length names) rowCount in
-    ltb-true (length names) rowCount (both (not (isIn name names)) (ltb (length names) rowCount) (both (validName name) test h .second) .second)
+join-few {limit} names name h =
+    let test = not (isIn name names) && ltb (length names) limit in
+    ltb-true (length names) limit (both (not (isIn name names)) (ltb (length names) limit) (both (validName name) test h .second) .second)
 
 valid-more : (names : List (List ℕ)) (name : List ℕ) → allValid names ≡ true → validName name ≡ true → allValid (names ++ (name ∷ [])) ≡ true
 unfolding allValid
@@ -83,14 +83,14 @@ once-more (first ∷ names) name h e =
     rw still (once-more names name (both (not (isIn first names)) (distinct names) h .second) (out .others))
 
 -- with a name that may join they are again
-pub good-more : (names : List (List ℕ)) (name : List ℕ) → Good rowCount names → mayJoin rowCount names name ≡ true → Good rowCount (names ++ (name ∷ []))
+pub good-more : {limit : ℕ} (names : List (List ℕ)) (name : List ℕ) → Good limit names → mayJoin limit names name ≡ true → Good limit (names ++ (name ∷ []))
 unfolding mayJoin
-good-more names name o h =
-    let test = not (isIn name names) && ltb (length names) rowCount in
+good-more {limit} names name o h =
+    let test = not (isIn name names) && ltb (length names) limit in
     let rest = both (validName name) test h .second in
     let few = join-few names name h in
     record {
       valid = valid-more names name (o .valid) (both (validName name) test h .first);
-      once = once-more names name (o .once) (not-true (isIn name names) (both (not (isIn name names)) (ltb (length names) rowCount) rest .first));
+      once = once-more names name (o .once) (not-true (isIn name names) (both (not (isIn name names)) (ltb (length names) limit) rest .first));
       few = simp length-append (omega arith);
     }

@@ -20,7 +20,7 @@ use Rattle.rows.proofs.NameLaws.{place-empty, in-used, room}
 use Rattle.board.proofs.NameLaws.{valid-fit, Fits, none-empty, fresh-names, watched-names, good-fits, join-few}
 
 -- a test that fails beside any other
-never : (t : Bool) → (t && false) ≡ false
+pub never : (t : Bool) → (t && false) ≡ false
 never true = refl
 never false = refl
 
@@ -36,33 +36,33 @@ join-row names name k h =
     (ap (λ (rows : List Row). record { rows = rows }) (change-unused names name k))
 
 -- one name more on a board of ours: the board of the names with it, in their order
-pub watch-more : (names : List (List ℕ)) (name : List ℕ) → Good rowCount names → mayJoin rowCount names name ≡ true → watchBoard rowCount (boardOf rowCount names) name ≡ acceptedWith (boardOf rowCount (names ++ (name ∷ [])))
+pub watch-more : {limit : ℕ} (names : List (List ℕ)) (name : List ℕ) → Good limit names → mayJoin limit names name ≡ true → watchBoard limit (boardOf limit names) name ≡ acceptedWith (boardOf limit (names ++ (name ∷ [])))
 unfolding watchBoard
-watch-more names name o h =
+watch-more {limit} names name o h =
     let few = join-few names name h in
-    let now : rowCount - length names ≡ suc (rowCount - suc (length names)) = omega arith in
-    let then : rowCount - length (names ++ (name ∷ [])) ≡ rowCount - suc (length names) = simp length-append (omega arith) in
-    rw (watched-names names (good-fits names (o .valid)), h, now, then) (ap acceptedWith (join-row names name (rowCount - suc (length names)) (good-fits names (o .valid))))
+    let now : limit - length names ≡ suc (limit - suc (length names)) = omega arith in
+    let then : limit - length (names ++ (name ∷ [])) ≡ limit - suc (length names) = simp length-append (omega arith) in
+    rw (watched-names limit names (good-fits names (o .valid)), h, now, then) (ap acceptedWith (join-row names name (limit - suc (length names)) (good-fits names (o .valid))))
 
 -- or the refusal, with the board as it was
-pub watch-refused : (names : List (List ℕ)) (name : List ℕ) → Good rowCount names → mayJoin rowCount names name ≡ false → watchBoard rowCount (boardOf rowCount names) name ≡ refusedWith (boardOf rowCount names)
+pub watch-refused : {limit : ℕ} (names : List (List ℕ)) (name : List ℕ) → Good limit names → mayJoin limit names name ≡ false → watchBoard limit (boardOf limit names) name ≡ refusedWith (boardOf limit names)
 unfolding watchBoard
-watch-refused names name o h = rw (watched-names names (good-fits names (o .valid)), h)
+watch-refused {limit} names name o h = rw (watched-names limit names (good-fits names (o .valid)), h)
 
 -- so the answer tells which it was
-pub accepted-joins : (names : List (List ℕ)) (name : List ℕ) → Good rowCount names → watchBoard rowCount (boardOf rowCount names) name .answer ≡ Accepted → mayJoin rowCount names name ≡ true
-accepted-joins names name o e = cases (mayJoin rowCount names name) refl
+pub accepted-joins : {limit : ℕ} (names : List (List ℕ)) (name : List ℕ) → Good limit names → watchBoard limit (boardOf limit names) name .answer ≡ Accepted → mayJoin limit names name ≡ true
+accepted-joins {limit} names name o e = cases (mayJoin limit names name) refl
   where
-    cases : (t : Bool) → mayJoin rowCount names name ≡ t → t ≡ true
+    cases : (t : Bool) → mayJoin limit names name ≡ t → t ≡ true
     cases true h = refl
     cases false h =
         let r = watch-refused names name o h in
         impossible cc
 
-pub refused-stays : (names : List (List ℕ)) (name : List ℕ) (number : ℕ) → Good rowCount names → watchBoard rowCount (boardOf rowCount names) name .answer ≡ Refused number → mayJoin rowCount names name ≡ false
-refused-stays names name number o e = cases (mayJoin rowCount names name) refl
+pub refused-stays : {limit : ℕ} (names : List (List ℕ)) (name : List ℕ) (number : ℕ) → Good limit names → watchBoard limit (boardOf limit names) name .answer ≡ Refused number → mayJoin limit names name ≡ false
+refused-stays {limit} names name number o e = cases (mayJoin limit names name) refl
   where
-    cases : (t : Bool) → mayJoin rowCount names name ≡ t → t ≡ false
+    cases : (t : Bool) → mayJoin limit names name ≡ t → t ≡ false
     cases false h = refl
     cases true h =
         let r = watch-more names name o h in

@@ -1,4 +1,5 @@
 pub mod ListSteps
+pub mod OldDisplays
 pub mod Reading
 pub mod ReadingSteps
 pub mod WatchList

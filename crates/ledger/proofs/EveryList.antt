@@ -50,7 +50,7 @@ fresh-agrees names =
       standing = refl;
       last-is = refl;
       counts-are = refl;
-      shows = record { showing = fresh-showing names ∙ ap (boardShowing rowCount) (fresh-shown names); named = fresh-named names };
+      shows = record { showing = fresh-showing rowCount names ∙ ap (boardShowing rowCount) (fresh-shown names); named = fresh-named names };
     }
 
 -- after some calls display and ledger agree, and all that was left is what the ledger gives

@@ -3,16 +3,17 @@
 use mathlib.Core.Path.{_≡_, refl, sym, ap, _∙_}
 use mathlib.Core.List.{List, [], _∷_, _++_, append-assoc, append-nil}
 use mathlib.Core.Option.{Option, some, none}
-use Prim.Native.Nat.{ℕ}
+use Prim.Native.Nat.{ℕ, _<_}
+use lib.ListN.{length}
 use Rattle.slices.proofs.Impossible.{impossible}
 use Rattle.slices.proofs.Lent.{in-call}
 use Rattle.rows.specs.Rows.{rowCount, boardOf}
 use Rattle.rows.specs.declared.Board.{Board}
-use Rattle.board.specs.WatchList.{Good, watchNames, fieldsOf, watchBoard, asWatched, acceptedWith}
+use Rattle.board.specs.WatchList.{Good, watchNames, fieldsOf, watchBoard, asWatched, acceptedWith, refusedWith}
 use Rattle.board.specs.declared.list.Listed.the-variants.{Accepted}
 use Rattle.board.specs.declared.list.Watched.{Watched}
 use Rattle.board.proofs.EntryLaws.{list-good}
-use Rattle.board.proofs.GoodLists.{may-join, good-listed}
+use Rattle.board.proofs.GoodLists.{may-join, good-listed, too-many-refused}
 use Rattle.board.proofs.NameLaws.{good-none, good-more}
 use Rattle.board.proofs.WatchLaws.{watch-more, accepted-joins}
 use Rattle.display.specs.Display as display
@@ -26,6 +27,10 @@ pub record Began (w : WatchList) (d : Display) : Type 0 where
   pub listed : namesIn w ≡ some names
   pub good : Good rowCount names
   pub is : d ≡ display.fresh (boardOf rowCount names)
+
+-- what a call of `board::watch_list` told
+pub list-told : (fields : List ℕ) (watched : Watched) → Lists fields watched → watched ≡ asWatched rowCount (watchNames rowCount fields)
+list-told fields watched lists = rw (lists .input-lent .holds) at (lists .learnt)
 
 from-list : (fields : List ℕ) (watched : Watched) (d : Display) → watched ≡ asWatched rowCount (watchNames rowCount fields) → watched .answer ≡ Accepted
     → d ≡ display.fresh (watched .board) → Began (as-bytes fields) d
@@ -59,7 +64,7 @@ some-names e = cc
 
 pub began : (w : WatchList) (d : Display) → Begins w d → Began w d
 began (as-bytes fields) d (from-bytes {watched = watched} lists accepted started) =
-    from-list fields watched d (rw (lists .input-lent .holds) at (lists .learnt)) accepted started
+    from-list fields watched d (list-told fields watched lists) accepted started
 began (one-by-one ns) d (no-names made started) =
     record { names = []; listed = refl; good = good-none; is = started ∙ ap display.fresh made }
 began (one-by-one ns) d (one-more {names = names} {name = name} {watched = watched} {d = d₀} before watches accepted started) =
@@ -72,19 +77,33 @@ began (one-by-one ns) d (one-more {names = names} {name = name} {watched = watch
 
 -- THEOREM. Every call of `board::watch_list` with the fields of a good list of names is accepted, with the board of the names.
 pub good-list-accepted : (names : List (List ℕ)) → Good rowCount names → (watched : Watched) → Lists (fieldsOf names) watched → watched ≡ acceptedWith (boardOf rowCount names)
-good-list-accepted names good watched lists =
-    let told : watched ≡ asWatched rowCount (watchNames rowCount (fieldsOf names)) = rw (lists .input-lent .holds) at (lists .learnt) in
-    told ∙ ap (asWatched rowCount) (good-listed names good)
+good-list-accepted names good watched lists = list-told (fieldsOf names) watched lists ∙ ap (asWatched rowCount) (good-listed names good)
+
+-- THEOREM. Every call of `board::watch_list` with the fields of more names than rows, whatever they are, is refused with 15, and the board
+-- shows none of them.
+pub too-many-names-refused : (names : List (List ℕ)) → rowCount < length names → (watched : Watched) → Lists (fieldsOf names) watched → watched ≡ refusedWith (boardOf rowCount [])
+too-many-names-refused names many watched lists = list-told (fieldsOf names) watched lists ∙ ap (asWatched rowCount) (too-many-refused names many)
+
+-- what a call of `board::watch` told, on the board of the names before
+pub record Told (names : List (List ℕ)) (name : List ℕ) (watched : Watched) : Type 0 where
+  pub good : Good rowCount names
+  pub is : watched ≡ watchBoard rowCount (boardOf rowCount names) name
+
+pub name-told : (names : List (List ℕ)) (name : List ℕ) (d : Display) → Begins (one-by-one names) d → (watched : Watched) → Watches (d .board) name watched
+    → Told names name watched
+name-told names name d begins watched watches =
+    let b = began (one-by-one names) d begins in
+    let same = some-names (b .listed) in
+    let told : watched ≡ watchBoard rowCount (d .board) name = rw (watches .input-lent .holds) at (watches .learnt) in
+    let board-is : d .board ≡ boardOf rowCount names = ap (λ (x : Display). x .board) (b .is) ∙ ap (boardOf rowCount) same in
+    record { good = rw same at (b .good); is = told ∙ ap (λ (x : Board). watchBoard rowCount x name) board-is }
 
 -- THEOREM. Every call of `board::watch` with a name that makes a good list with those before it is accepted, with the board of all of them.
 pub good-name-accepted : (names : List (List ℕ)) (name : List ℕ) (d : Display) → Begins (one-by-one names) d → Good rowCount (names ++ (name ∷ []))
     → (watched : Watched) → Watches (d .board) name watched → watched ≡ acceptedWith (boardOf rowCount (names ++ (name ∷ [])))
 good-name-accepted names name d begins good watched watches =
-    let b = began (one-by-one names) d begins in
-    let same = some-names (b .listed) in
-    let told : watched ≡ watchBoard rowCount (d .board) name = rw (watches .input-lent .holds) at (watches .learnt) in
-    let board-is : d .board ≡ boardOf rowCount names = ap (λ (x : Display). x .board) (b .is) ∙ ap (boardOf rowCount) same in
-    told ∙ ap (λ (x : Board). watchBoard rowCount x name) board-is ∙ watch-more names name (rw same at (b .good)) (may-join name [] names good)
+    let told = name-told names name d begins watched watches in
+    told .is ∙ watch-more names name (told .good) (may-join name [] names good)
 
 -- THEOREM. From every list that is accepted there is a fresh start.
 pub accepted-begins : (fields : List ℕ) (names : List (List ℕ)) → watchNames rowCount fields ≡ some names → Begins (as-bytes fields) (display.fresh (boardOf rowCount names))

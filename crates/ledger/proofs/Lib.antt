@@ -12,6 +12,7 @@ pub mod PieceAgreement
 pub mod Chain
 pub mod FreshStarts
 pub mod EveryList
+pub mod OldDisplays
 pub mod ByEvents
 pub mod HistoryLaws
 pub mod FrameLaws

@@ -48,8 +48,8 @@ fresh-rows [] zero = refl
 fresh-rows [] (suc k) = ap (λ (l : List Row). freshRow [] ∷ l) (fresh-rows [] k)
 fresh-rows (name ∷ names) k = ap (λ (l : List Row). freshRow name ∷ l) (fresh-rows names k)
 
-pub fresh-showing : (names : List (List ℕ)) → boardOf rowCount names ≡ boardShowing rowCount (map freshEntry names)
-fresh-showing names = rw (length-map names freshEntry) (ap boardWith (fresh-rows names (rowCount - length names)))
+pub fresh-showing : (count : ℕ) (names : List (List ℕ)) → boardOf count names ≡ boardShowing count (map freshEntry names)
+fresh-showing count names = rw (length-map names freshEntry) (ap boardWith (fresh-rows names (count - length names)))
 
 -- a tick
 tick-rows : (es : List Entry) (k : ℕ) → map tickRow (rowsShowing es k) ≡ rowsShowing (map tickEntry es) k

@@ -16,9 +16,9 @@ use Rattle.rows.specs.declared.Place.the-variants.{Nowhere}
 use Rattle.rows.specs.declared.Place.the-variants as place
 use Rattle.rows.specs.Names.{used}
 
--- 01, The board: the board holds sixteen rows
+-- 02, C-20: the board holds forty rows, in place of 01's sixteen
 abbrev pub rowCount : ℕ
-rowCount = 16
+rowCount = 40
 
 -- 01, The board: each with its own name bytes; names have up to 27
 abbrev pub nameRoom : ℕ

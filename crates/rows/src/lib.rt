@@ -5,8 +5,8 @@ ghost use Rattle.slices.specs.Same.{sameBytes};
 ghost use Rattle.rows.specs.Names.{placeOf};
 ghost use Rattle.rows.specs.Rows.{rowCount, rowName, rowNames, tickState, tickRow, tickBoard, withState, freshRow, boardOf, updateBoard, putRow, asPlace};
 
-// How many rows the board has.
-pub const ROWS: usize = 16;
+// How many rows the board has, and so how many names it can watch.
+pub const ROWS: usize = 40;
 
 // How many bytes a row has for its name.
 pub const NAME_ROOM: usize = 27;

@@ -5,7 +5,7 @@ use mathlib.Core.List.{List, [], _∷_, _++_, map}
 use Prim.Native.Nat.{ℕ, zero, suc}
 use native.Mathlib.Omega.{arith}
 use lib.IntN.{pos}
-use lib.ListN.{length, replicate}
+use lib.ListN.{replicate}
 use Rattle.frame.specs.Writing as writing
 use Rattle.rows.specs.Entries.{boardShowing}
 use Rattle.rows.specs.OldRows.{oldRowCount}

@@ -1,6 +1,6 @@
 -- Two limits on the names of a watch list: the names that the smaller one gives are those of the larger one, where they are no more than
 -- it, since up to there each name joins by either.
-use mathlib.Core.Path.{_≡_, refl, ap}
+use mathlib.Core.Path.{_≡_, refl}
 use mathlib.Core.Bool.{Bool, true, false, cond, not, _&&_}
 use mathlib.Core.List.{List, [], _∷_, _++_}
 use mathlib.Core.Option.{Option, none}
@@ -27,9 +27,44 @@ module _ (small large : ℕ) (less : small ≤ large) where
   unfolding mayJoin
   join-full names name full = rw (le-ltb (length names) small full, never (not (isIn name names)), never (validName name))
 
+  -- what holds of the names behind a field holds where the field is refused too
   without : (t : Bool) (o : Option (List (List ℕ))) → atMost small o ≡ none → atMost small (cond t o none) ≡ none
   without true o e = e
   without false o e = refl
+
+  through : (t : Bool) (o p : Option (List (List ℕ))) → o ≡ atMost small p → cond t o none ≡ atMost small (cond t p none)
+  through true o p e = e
+  through false o p e = refl
+
+  -- a field whose name may join the names before it; what stands behind the field is read with the name among them
+  module _ (names : List (List ℕ)) (tag high low : ℕ) (rest : List ℕ) where
+    abbrev name : List ℕ
+    name = take (pairOf high low) rest
+
+    abbrev with-name : List (List ℕ)
+    with-name = names ++ (name ∷ [])
+
+    abbrev whole : Bool
+    whole = isWhole tag (pairOf high low) rest
+
+    abbrev next : ℕ → Option (List (List ℕ))
+    next limit = namesFrom limit (pairOf high low) with-name rest
+
+    abbrev field : ℕ → Option (List (List ℕ))
+    field limit = cond (whole && mayJoin limit names name) (next limit) none
+
+    one-more : length with-name ≡ suc (length names)
+    one-more = simp length-append (omega arith)
+
+    field-too-many : small ≤ length names → (small < length with-name → atMost small (next large) ≡ none) → atMost small (field large) ≡ none
+    field-too-many full below = without (whole && mayJoin large names name) (next large) (below (omega (arith, one-more)))
+
+    field-at-most : length names < small → (length with-name ≤ small → next small ≡ atMost small (next large)) → field small ≡ atMost small (field large)
+    field-at-most room below =
+        rw (join-both names name room) (through (whole && mayJoin large names name) (next small) (next large) (below (omega (arith, one-more))))
+
+    field-full : small ≤ length names → (small < length with-name → atMost small (next large) ≡ none) → field small ≡ atMost small (field large)
+    field-full full below = rw (join-full names name full, never whole, field-too-many full below)
 
   -- where there are too many names, more do not help
   too-many : (skip : ℕ) (names : List (List ℕ)) (rest : List ℕ) → small < length names → atMost small (namesFrom large skip names rest) ≡ none
@@ -38,27 +73,9 @@ module _ (small large : ℕ) (less : small ≤ large) where
   too-many zero names (tag ∷ []) more = refl
   too-many zero names (tag ∷ high ∷ []) more = refl
   too-many zero names (tag ∷ high ∷ low ∷ rest) more =
-      let name = take (pairOf high low) rest in
-      let longer : small < length (names ++ (name ∷ [])) = simp length-append (omega arith) in
-      without (isWhole tag (pairOf high low) rest && mayJoin large names name) (namesFrom large (pairOf high low) (names ++ (name ∷ [])) rest)
-      (too-many (pairOf high low) (names ++ (name ∷ [])) rest longer)
+      field-too-many names tag high low rest (omega arith) (λ longer. too-many (pairOf high low) (with-name names tag high low rest) rest longer)
   too-many (suc skip) names [] more = refl
   too-many (suc skip) names (byte ∷ rest) more = too-many skip names rest more
-
-  through : (t : Bool) (o p : Option (List (List ℕ))) → o ≡ atMost small p → cond t o none ≡ atMost small (cond t p none)
-  through true o p e = e
-  through false o p e = refl
-
-  -- a field whose name joins, or not; `next` is what a limit makes of those behind it
-  module _ (names : List (List ℕ)) (name : List ℕ) (whole : Bool) (next : ℕ → Option (List (List ℕ))) where
-    abbrev joined : ℕ → Option (List (List ℕ))
-    joined limit = cond (whole && mayJoin limit names name) (next limit) none
-
-    with-room : length names < small → next small ≡ atMost small (next large) → joined small ≡ atMost small (joined large)
-    with-room room e = rw (join-both names name room) (through (whole && mayJoin large names name) (next small) (next large) e)
-
-    without-room : small ≤ length names → atMost small (next large) ≡ none → joined small ≡ atMost small (joined large)
-    without-room full e = rw (join-full names name full, never whole, without (whole && mayJoin large names name) (next large) e)
 
   names-at-most : (skip : ℕ) (names : List (List ℕ)) (rest : List ℕ) → length names ≤ small → namesFrom small skip names rest ≡ atMost small (namesFrom large skip names rest)
   unfolding namesFrom
@@ -66,25 +83,14 @@ module _ (small large : ℕ) (less : small ≤ large) where
   names-at-most zero names (tag ∷ []) few = refl
   names-at-most zero names (tag ∷ high ∷ []) few = refl
   names-at-most zero names (tag ∷ high ∷ low ∷ rest) few =
-      cases (ltb (length names) small) refl (λ fewer. names-at-most (pairOf high low) (names ++ (take (pairOf high low) rest ∷ [])) rest fewer)
+      cases (ltb (length names) small) refl (λ fewer. names-at-most (pairOf high low) (with-name names tag high low rest) rest fewer)
     where
-      all : length (names ++ (take (pairOf high low) rest ∷ [])) ≡ suc (length names)
-      all = simp length-append (omega arith)
-
-      next : ℕ → Option (List (List ℕ))
-      next limit = namesFrom limit (pairOf high low) (names ++ (take (pairOf high low) rest ∷ [])) rest
-
-      cases : (t : Bool) → ltb (length names) small ≡ t → (length (names ++ (take (pairOf high low) rest ∷ [])) ≤ small → next small ≡ atMost small (next large))
-          → joined names (take (pairOf high low) rest) (isWhole tag (pairOf high low) rest) next small
-          ≡ atMost small (joined names (take (pairOf high low) rest) (isWhole tag (pairOf high low) rest) next large)
-      cases true test below =
-          let room = ltb-true (length names) small test in
-          with-room names (take (pairOf high low) rest) (isWhole tag (pairOf high low) rest) next room (below (omega (arith, all)))
-      cases false test below =
-          let full = ltb-false (length names) small test in
-          let longer : small < length (names ++ (take (pairOf high low) rest ∷ [])) = omega (arith, all) in
-          without-room names (take (pairOf high low) rest) (isWhole tag (pairOf high low) rest) next full
-          (too-many (pairOf high low) (names ++ (take (pairOf high low) rest ∷ [])) rest longer)
+      cases : (t : Bool) → ltb (length names) small ≡ t
+          → (length (with-name names tag high low rest) ≤ small → next names tag high low rest small ≡ atMost small (next names tag high low rest large))
+          → field names tag high low rest small ≡ atMost small (field names tag high low rest large)
+      cases true room below = field-at-most names tag high low rest (ltb-true (length names) small room) below
+      cases false full below =
+          field-full names tag high low rest (ltb-false (length names) small full) (λ longer. too-many (pairOf high low) (with-name names tag high low rest) rest longer)
   names-at-most (suc skip) names [] few = refl
   names-at-most (suc skip) names (byte ∷ rest) few = names-at-most skip names rest few
 

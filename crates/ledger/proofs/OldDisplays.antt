@@ -29,7 +29,7 @@ use Rattle.ledger.proofs.Chain.{Begins, Chain, Lists, Watches}
 use Rattle.ledger.proofs.FreshStarts.{list-told, Told, name-told}
 use Rattle.ledger.proofs.EveryList.{agreeing}
 
--- an old display has more rows than the list has names
+-- an old display has fewer rows
 few-rows : oldRowCount ≤ rowCount
 few-rows = omega arith
 

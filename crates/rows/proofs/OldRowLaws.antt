@@ -8,7 +8,6 @@ use lib.Seq.{take-at, drop-at}
 use Rattle.rows.specs.Entries.{Entry, rowShowing, boardShowing, freshEntry}
 use Rattle.rows.specs.OldRows.{oldRowCount, SameRows}
 use Rattle.rows.specs.Rows.{rowCount, freshRow, boardOf}
-use Rattle.rows.specs.declared.Board.{Board}
 use Rattle.rows.specs.declared.Row.{Row}
 use Rattle.rows.proofs.EntryLaws.{fresh-showing}
 

@@ -18,6 +18,7 @@
 
 #define ROWS 40
 #define NAME_MAX_LENGTH 27
+#define LIST_MAX 2048
 #define STREAM_MAX 65536
 #define NUMBER_BYTES 4
 #define UPDATE 0x03
@@ -223,10 +224,18 @@ static void feed(struct receiver *receiver, const uint8_t *stream, size_t length
     }
 }
 
-static void watch(struct row *row, const char *name)
+/* The names of a watch list, one row each. */
+static void watch(struct row rows[ROWS], const uint8_t *list, size_t length)
 {
-    row->length = strlen(name);
-    memcpy(row->name, name, row->length);
+    size_t at = 0;
+    for (size_t i = 0; i < ROWS && length - at > 3; i++) {
+        size_t size = list[at + 2];
+        if (list[at + 1] != 0 || size > NAME_MAX_LENGTH || length - at - 3 < size)
+            return;
+        rows[i].length = size;
+        memcpy(rows[i].name, list + at + 3, size);
+        at += 3 + size;
+    }
 }
 
 /* The lines of the crate reports. Nothing ticks here, so every age is 0. */
@@ -257,17 +266,19 @@ static size_t number(const uint8_t bytes[NUMBER_BYTES])
 
 int main(void)
 {
-    static uint8_t stream[STREAM_MAX];
+    static uint8_t list[LIST_MAX], stream[STREAM_MAX];
     static struct receiver receiver;
-    uint8_t head[2 * NUMBER_BYTES];
+    uint8_t head[3 * NUMBER_BYTES];
     if (fread(head, 1, sizeof head, stdin) != sizeof head)
         return EXIT_FAILURE;
     size_t size = number(head), rounds = number(head + NUMBER_BYTES);
+    size_t listed = number(head + 2 * NUMBER_BYTES);
+    if (listed > sizeof list || fread(list, 1, listed, stdin) != listed)
+        return EXIT_FAILURE;
     size_t length = fread(stream, 1, sizeof stream, stdin);
     crc_tables_start();
     receiver.last = -1;
-    watch(&receiver.rows[0], "h1");
-    watch(&receiver.rows[1], "h2");
+    watch(receiver.rows, list, listed);
     for (size_t i = 0; i < rounds; i++)
         feed(&receiver, stream, length, size);
     report(&receiver);

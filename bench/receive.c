@@ -1,8 +1,8 @@
 /*
  * Time of the receiver on streams in pieces of 1, 64 and 4,096 bytes, beside the same in C. All are
- * programs, named as arguments, the library first: they are given a number of rounds and a stream,
- * and what counts is the processor time that the system says they took. They take turns. A speed is
- * that of the best turn; a ratio is the median over the turns.
+ * programs, named as arguments, the library first: they are given a number of rounds, a watch list
+ * and a stream, and what counts is the processor time that the system says they took. They take
+ * turns. A speed is that of the best turn; a ratio is the median over the turns.
  */
 #define _DEFAULT_SOURCE
 
@@ -23,7 +23,7 @@
 #define STREAM_MAX 16384
 #define PROGRAMS 3
 #define ALIKE_ROUNDS 3
-#define OUTPUT_MAX 256
+#define OUTPUT_MAX 2048
 
 struct program {
     const char *path;
@@ -71,9 +71,25 @@ static void put_number(FILE *file, size_t number)
         require(fputc((int)(number >> shift & 0xff), file) != EOF, "no room for a number");
 }
 
+/* The hives h1, h2 and so on as a watch list, and its length before it. */
+static void put_list(FILE *file, unsigned hives)
+{
+    char list[OUTPUT_MAX];
+    size_t length = 0;
+    for (unsigned i = 1; i <= hives; i++) {
+        int size = snprintf(list + length + 3, sizeof list - length - 3, "h%u", i);
+        list[length] = 1;
+        list[length + 1] = 0;
+        list[length + 2] = (char)size;
+        length += 3 + (size_t)size;
+    }
+    put_number(file, length);
+    require(fwrite(list, 1, length, file) == length, "no room for the list");
+}
+
 /*
- * Runs a program, its output going into a file, and answers its processor time. Before the stream
- * stand the length of a piece and the number of rounds.
+ * Runs a program, its output going into a file, and answers its processor time. Before the watch
+ * list and the stream stand the length of a piece and the number of rounds.
  */
 static double run(const char *path, size_t size, unsigned rounds, FILE *input, FILE *output)
 {
@@ -156,13 +172,18 @@ static double ratio(const struct program *library, const struct program *other)
     return ratios[TURNS / 2];
 }
 
-/* As many data frames with this payload as there is room for; no two in a row have one sequence. */
-static struct stream make_stream(const char *kind, const uint8_t *payload, size_t payload_length)
+/*
+ * As many data frames with this payload as there is room for, to a board of so many hives; no two in
+ * a row have one sequence.
+ */
+static struct stream make_stream(const char *kind, unsigned hives, const uint8_t *payload,
+                                 size_t payload_length)
 {
     static uint8_t frame[ARZNAVIK_FRAME_MAX];
     struct stream stream = {kind, 0, empty_file()};
     put_number(stream.bytes, 0);
     put_number(stream.bytes, 0);
+    put_list(stream.bytes, hives);
     for (unsigned i = 0;; i++) {
         uint64_t report = plain_frame_write(ARZNAVIK_TYPE_DATA, (uint8_t)(1 + i % 255), payload,
                                             payload_length, frame, sizeof frame);
@@ -180,7 +201,15 @@ static const uint8_t update[] = {0x01, 0x03, 0x00, 0x00, 0x01, 0x02, 'h',
 
 static struct stream short_updates(void)
 {
-    return make_stream("update", update, sizeof update);
+    return make_stream("update", 2, update, sizeof update);
+}
+
+/* The same of the last of forty hives. */
+static struct stream fortieth_updates(void)
+{
+    static const uint8_t fortieth[] = {0x01, 0x03, 0x00, 0x00, 0x01, 0x03, 'h', '4',
+                                       '0',  0x16, 0x04, 0x00, 0x00, 0x0d, 0x7a};
+    return make_stream("fortieth", 40, fortieth, sizeof fortieth);
 }
 
 /* With two items behind it that fill the longest payload. */
@@ -194,7 +223,7 @@ static struct stream longest_updates(void)
     payload[items[0]] = payload[items[1]] = 0x05;
     payload[items[0] + 1] = 255;
     payload[items[1] + 1] = (uint8_t)(sizeof payload - items[1] - 2);
-    return make_stream("longest", payload, sizeof payload);
+    return make_stream("longest", 2, payload, sizeof payload);
 }
 
 /* With as many empty items behind it as the longest payload has room for. */
@@ -204,7 +233,7 @@ static struct stream updates_of_many_items(void)
     memcpy(payload, update, sizeof update);
     for (size_t i = sizeof update; i < sizeof payload; i += 2)
         payload[i] = 0x05;
-    return make_stream("items", payload, sizeof payload);
+    return make_stream("items", 2, payload, sizeof payload);
 }
 
 static void print_row(struct program programs[PROGRAMS], size_t size, const struct stream *stream)
@@ -224,7 +253,8 @@ int main(int argc, char **argv)
     struct program programs[PROGRAMS];
     for (int i = 0; i < PROGRAMS; i++)
         programs[i].path = argv[1 + i];
-    const struct stream streams[] = {short_updates(), longest_updates(), updates_of_many_items()};
+    const struct stream streams[] = {short_updates(), longest_updates(), updates_of_many_items(),
+                                     fortieth_updates()};
     printf("million bytes in a second; a ratio under 1.00 means that the library is faster\n");
     printf("%-8s  %6s  %8s  %8s  %5s  %8s  %5s\n", "frames", "piece", "library", "plain C", "ratio",
            "table C", "ratio");

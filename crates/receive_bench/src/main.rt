@@ -1,8 +1,9 @@
 // Feeds a stream to a display, in pieces and over and over, and prints the counts and the rows. `make
 // bench-receive` times it on long streams, and holds its output to that of a receiver in C.
 //
-// On standard input stand the length of a piece and how often the stream is fed, each in four bytes,
-// high byte first, then the stream.
+// On standard input stand the length of a piece, how often the stream is fed and the length of the watch
+// list, each in four bytes, high byte first, then the watch list and the stream. With a list that is
+// refused the board watches nothing.
 //
 // The stored run is a short stream, three times in pieces of seven bytes, and its output is compared
 // with the file `stdout`. By document 01, The receiver, each time brings case 6 with sequence 01, an
@@ -18,10 +19,12 @@ ghost use lib.ListN.{length};
 ghost use Rattle.frame.specs.Content.{payloadMax};
 ghost use Rattle.link.specs.Closing.{replyRoom};
 
-// The two numbers before the stream.
+// The three numbers before the watch list.
 const SIZE_END: usize = 4;
 
 const ROUNDS_END: usize = 8;
+
+const LISTED_END: usize = 12;
 
 fn main() {
     let mut input = io::large_buffer();
@@ -30,19 +33,26 @@ fn main() {
 }
 
 fn feed_input(input: &[u8]) {
-    if input.len() < ROUNDS_END {
+    if input.len() < LISTED_END {
         return;
     }
     let size = line::number(&input[..SIZE_END]) as usize;
     let rounds = line::number(&input[SIZE_END..ROUNDS_END]) as usize;
-    let last = feed_rounds(&input[ROUNDS_END..], size, rounds);
+    let listed = line::number(&input[ROUNDS_END..LISTED_END]) as usize;
+    let rest = &input[LISTED_END..];
+    if rest.len() < listed {
+        return;
+    }
+    let watched = board::watch_list(&rest[..listed]);
+    let fresh = display::start(watched.board);
+    let last = feed_rounds(fresh, &rest[listed..], size, rounds);
     display_cases::show_display(last);
 }
 
-fn feed_rounds(stream: &[u8], size: usize, rounds: usize) -> Display {
+fn feed_rounds(display: Display, stream: &[u8], size: usize, rounds: usize) -> Display {
     let mut reply = [0u8; REPLY_ROOM];
     let mut packet = [0u8; PAYLOAD_MAX];
-    let mut next = display_cases::fresh_display();
+    let mut next = display;
     let mut i: usize = 0;
     while i < rounds {
         next = feed(next, stream, size, &mut reply, &mut packet);

@@ -14,9 +14,6 @@ Inv-loop stream size rounds reply₀ packet₀ next₀ i₀ reply packet next i 
 abbrev μ-loop : tie.MeasureT-loop
 μ-loop stream size rounds reply₀ packet₀ next₀ i₀ reply packet next i = rounds - i
 
-fresh-display-requires : tie.Need-fresh-display-requires Inv-loop μ-loop
-fresh-display-requires c κs = tt
-
 loop-holds : tie.Need-loop-holds Inv-loop μ-loop
 loop-holds c = omega arith
 
@@ -47,7 +44,6 @@ feed-rounds-spec =
     (tie.spec
     Inv-loop
     μ-loop
-    fresh-display-requires
     loop-holds
     slice-aggregate-feed
     slice-aggregate-feed-2

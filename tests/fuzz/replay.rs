@@ -19,6 +19,9 @@ mod packet;
 mod program;
 #[path = "../shared/random.rs"]
 mod random;
+#[path = "../reference/watch_list.rs"]
+#[allow(dead_code)]
+mod watch_list;
 
 use std::cell::RefCell;
 use std::slice;

@@ -4,17 +4,22 @@
 use crate::batches::{self, Step};
 use crate::board::{read_value, Board, Reading, Refusal};
 use crate::classes::{self, Class};
+use crate::list_classes;
 use crate::packet::{read_packet, Item, Look, Packet, CASE_6, EOF, NAME};
 use crate::receiver::{self, Event};
 use crate::tally::Tally;
+use crate::watch_list::read_list;
 
 /// The lines before the cases, which are printed too.
 pub const PACKET_SUBJECT: &str = "= packet";
 pub const BOARD_SUBJECT: &str = "= board";
 pub const TRANSFER_SUBJECT: &str = "= transfer";
 
-/// Of a line the program reads so many bytes.
+/// The most bytes of a line, watch lists apart.
 pub const LINE_BYTES_MAX: usize = 400;
+
+/// Of a line the program reads so many bytes: a list of 41 names of 27 bytes.
+pub const LIST_BYTES_MAX: usize = 1230;
 
 #[derive(Clone, Debug)]
 pub enum Case {
@@ -26,6 +31,8 @@ pub enum Case {
     Value { kind: u8, bytes: Vec<u8> },
     /// A packet read by a board of h1 and h2.
     Reading(Vec<u8>),
+    /// The bytes of a watch list.
+    List(Vec<u8>),
     /// A line of this key with no bytes, of which the first would be a type.
     NoBytes(char),
     /// All that one transfer meets.
@@ -60,6 +67,11 @@ impl batches::Case for Case {
                 line: batches::line('r', label, packet),
                 wanted: format!("{label}: {}", reading(packet)),
                 classes: classes::of_reading(packet),
+            },
+            Case::List(fields) => Step {
+                line: batches::line('w', label, fields),
+                wanted: format!("{label}: {}", list(fields)),
+                classes: list_classes::of_list(fields),
             },
             Case::NoBytes(key) => Step {
                 line: batches::line(*key, label, &[]),
@@ -154,6 +166,14 @@ fn reading(packet: &[u8]) -> String {
     format!("{answer}\n{}", board.shown())
 }
 
+/// The answer to a watch list, and the rows of one that is accepted.
+fn list(fields: &[u8]) -> String {
+    match read_list(fields) {
+        Ok(board) => format!("accepted\n{}", board.shown()),
+        Err(refusal) => format!("refused {}\n", refusal.number()),
+    }
+}
+
 /// The stored cases, held to the reference.
 #[cfg(test)]
 mod stored_cases {
@@ -169,6 +189,7 @@ mod stored_cases {
             return match line.key {
                 'p' => vec![Case::Parts(Vec::new())],
                 'r' => vec![Case::Reading(Vec::new())],
+                'w' => vec![Case::List(Vec::new())],
                 _ => Vec::new(),
             };
         };
@@ -176,6 +197,7 @@ mod stored_cases {
         match line.key {
             'p' => vec![Case::Parts(bytes)],
             'r' => vec![Case::Reading(bytes)],
+            'w' => vec![Case::List(bytes)],
             'k' => vec![Case::Look { kind, packet: rest }],
             'v' => vec![Case::Value { kind, bytes: rest }],
             'e' => long_packet(&rest).map_or(Vec::new(), |packet| {
@@ -253,7 +275,7 @@ mod stored_cases {
 
     #[test]
     fn of_boards() {
-        assert!(have_the_answers_of_the_reference(BOARD_SUBJECT) > 60);
+        assert!(have_the_answers_of_the_reference(BOARD_SUBJECT) > 100);
     }
 
     #[test]

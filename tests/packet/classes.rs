@@ -3,6 +3,7 @@
 use crate::applying::{board_numbers, fragment_numbers};
 use crate::board::{self, Reading};
 use crate::cases::lent_board;
+use crate::list_classes::List;
 use crate::packet::{self, read_packet, Item, Packet, CENTS, EOF, INTEGER, NAME};
 use crate::transfer::{self, read_fragment, BadForm, Fragment, Transfer};
 
@@ -23,6 +24,7 @@ pub enum Class {
     BoardRefused(board::Refusal),
     /// The first two numbers, where several refusals apply.
     BoardBoth(u8, u8),
+    List(List),
     /// Whether a transfer started.
     Start(bool),
     Accepted(Taken),
@@ -248,6 +250,7 @@ impl Class {
         packets
             .chain(refused)
             .chain(of_boards())
+            .chain(List::all().map(Class::List))
             .chain(of_transfers())
     }
 }
@@ -286,11 +289,11 @@ fn of_transfers() -> impl Iterator<Item = Class> {
         .chain(pairs(&[9, 10, 11, 20, 16, 17, 18, 19]).map(|(a, b)| Class::FragmentBoth(a, b)))
 }
 
-/// Each two of the numbers, in their order.
-fn pairs(numbers: &'static [u8]) -> impl Iterator<Item = (u8, u8)> {
-    let firsts = numbers.iter().enumerate();
+/// Each two of them, in their order.
+pub fn pairs<T: Copy>(all: &'static [T]) -> impl Iterator<Item = (T, T)> {
+    let firsts = all.iter().enumerate();
     firsts.flat_map(|(place, first)| {
-        let seconds = numbers[place + 1..].iter();
+        let seconds = all[place + 1..].iter();
         seconds.map(|second| (*first, *second))
     })
 }

@@ -234,10 +234,14 @@ fn every_value_item() -> impl Iterator<Item = Vec<u8>> {
 }
 
 /// Names of each length up to 40, with each byte first, and with each byte behind a letter.
-fn every_name() -> impl Iterator<Item = Vec<u8>> {
+pub fn names() -> impl Iterator<Item = Vec<u8>> {
     let lengths = (0..=40).map(|length| vec![b'a'; length]);
     let bytes = (0..=255).flat_map(|byte| [vec![byte], vec![b'h', byte], vec![byte, b'1']]);
-    lengths.chain(bytes).map(|name| {
+    lengths.chain(bytes)
+}
+
+fn every_name() -> impl Iterator<Item = Vec<u8>> {
+    names().map(|name| {
         let items = vec![part(NAME, &name), part(INTEGER, &[5])];
         update(items).bytes()
     })

@@ -3,10 +3,8 @@
 
 use crate::board::Board;
 use crate::frame::{enclose, read_frame, FLAG, PAYLOAD_MAX};
-use crate::packet::is_name;
+use crate::watch_list::{self, split_field};
 
-/// Request C-20.
-const NAMES_MAX: usize = 40;
 const FIELD_MAX: usize = 4096;
 
 #[derive(Default)]
@@ -28,11 +26,11 @@ pub fn output(history: &[u8]) -> String {
     let mut listing = true;
     let mut rest = history;
     while !rest.is_empty() {
-        let Some((tag, value, behind)) = split_field(rest) else {
+        let Ok((tag, value, behind)) = split_field(rest) else {
             return ledger.broken();
         };
         let good = match tag {
-            1 => listing && ledger.watch(value),
+            1 => listing && watch_list::join(&mut ledger.board, value).is_ok(),
             2 => ledger.receive(value),
             3 => ledger.tick(value),
             _ => false,
@@ -46,32 +44,10 @@ pub fn output(history: &[u8]) -> String {
     ledger.report()
 }
 
-fn split_field(bytes: &[u8]) -> Option<(u8, &[u8], &[u8])> {
-    let [tag, high, low, rest @ ..] = bytes else {
-        return None;
-    };
-    let length = usize::from(u16::from_be_bytes([*high, *low]));
-    if rest.len() < length {
-        return None;
-    }
-    let (value, behind) = rest.split_at(length);
-    Some((*tag, value, behind))
-}
-
 impl Ledger {
     fn broken(mut self) -> String {
         self.printed.push_str("refused 15\n");
         self.printed
-    }
-
-    fn watch(&mut self, name: &[u8]) -> bool {
-        let rows = &self.board.rows;
-        let listed = rows.iter().any(|row| row.name == name);
-        if !is_name(name) || listed || rows.len() == NAMES_MAX {
-            return false;
-        }
-        self.board.watch(name);
-        true
     }
 
     fn tick(&mut self, value: &[u8]) -> bool {

@@ -20,6 +20,9 @@ mod program;
 #[path = "../shared/random.rs"]
 mod random;
 mod sights;
+#[path = "../reference/watch_list.rs"]
+#[allow(dead_code)]
+mod watch_list;
 
 use random::Random;
 use sights::Sights;

@@ -12,7 +12,7 @@ pub const SUBJECT: &str = "= ash";
 /// The longest output that the program lends.
 pub const OUTPUT_MAX: usize = 80;
 
-/// Of a line the program reads so many bytes.
+/// The most bytes of a line. The program reads more.
 pub const LINE_BYTES_MAX: usize = 400;
 
 /// What the output holds before the call.

@@ -13,7 +13,7 @@ use crate::tally::Tally;
 pub const SESSION_SUBJECT: &str = "= session";
 pub const CUTTER_SUBJECT: &str = "= cutter";
 
-/// Of a line the program reads so many bytes.
+/// The most bytes of a line. The program reads more.
 pub const LINE_BYTES_MAX: usize = 400;
 
 #[derive(Clone, Debug)]

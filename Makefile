@@ -216,8 +216,10 @@ fuzz-packages:
 $(FUZZ): | fuzz-packages
 	mkdir -p $@
 
+# The library, with its own functions visible.
 $(FUZZ)/archive.o: $(ARCHIVE) | $(FUZZ)
 	ar p $< >$@
+	objcopy --wildcard --globalize-symbol='*::*' $@
 
 # The program's main, read and write under other names, and its own functions visible.
 $(FUZZ)/replay.o: $(REPLAY) | $(FUZZ)

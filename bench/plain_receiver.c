@@ -1,8 +1,8 @@
 /*
  * The receiver and the board in plain C, as a program with the input and output of the crate
  * receive_bench, so that both are timed in the same way. The state stands in one place and is
- * changed there; the board keeps values and no ages, and refusals 9 to 14 are one answer. Compiled
- * with CONTENT_CRC=table_crc it checks content by the table.
+ * changed there; the board keeps values and no ages, refusals 9 to 14 are one answer, and the watch
+ * list is taken to be good. Compiled with CONTENT_CRC=table_crc it checks content by the table.
  */
 #include "arznavik.h"
 

@@ -24,6 +24,8 @@
 #define PROGRAMS 3
 #define ALIKE_ROUNDS 3
 #define OUTPUT_MAX 2048
+#define HIVES_MAX 40
+#define FIELD_MAX 8
 
 struct program {
     const char *path;
@@ -74,10 +76,11 @@ static void put_number(FILE *file, size_t number)
 /* The hives h1, h2 and so on as a watch list, and its length before it. */
 static void put_list(FILE *file, unsigned hives)
 {
-    char list[OUTPUT_MAX];
+    char list[HIVES_MAX * FIELD_MAX];
     size_t length = 0;
+    require(hives <= HIVES_MAX, "too many hives");
     for (unsigned i = 1; i <= hives; i++) {
-        int size = snprintf(list + length + 3, sizeof list - length - 3, "h%u", i);
+        int size = snprintf(list + length + 3, FIELD_MAX - 3, "h%u", i);
         list[length] = 1;
         list[length + 1] = 0;
         list[length + 2] = (char)size;

@@ -214,7 +214,7 @@ def cases():
     for most in 16, 17, 40:
         yield f"names_{most}", numbered(most), [f"hive{n} never" for n in range(1, most + 1)] + counts()
     yield "names_41", *broken(numbered(41))
-    # The first row and the last, and those on either side of a display's of sixteen rows.
+    # The first row and the last, and the two about the end of an old display's sixteen rows.
     yield "forty_hives", numbered(40) + updated(1, 17) + TICK + updated(16, 40) + TICK * 29, [
         REPLY, REPLY, REPLY, REPLY, "hive1 silent"] + [f"hive{n} never" for n in range(2, 16)] + [
         "hive16 current 16 29", "hive17 silent"] + [f"hive{n} never" for n in range(18, 40)] + [

@@ -1,5 +1,5 @@
-//! The program of document 01, sections "Program and C host" and "The ledger", written for reading
-//! and not for speed. The replay test holds the program `replay` to this.
+//! The program of document 01, sections "Program and C host" and "The ledger", with the watch list of
+//! request C-20, written for reading and not for speed. The replay test holds the program `replay` to this.
 
 use crate::board::Board;
 use crate::frame::{enclose, read_frame, FLAG, PAYLOAD_MAX};

@@ -14,7 +14,7 @@ use Rattle.slices.specs.HighFirst.{pairOf}
 use Rattle.slices.proofs.TestLaws.{both}
 use Rattle.packet.specs.Packet.{packetOf}
 use Rattle.rows.specs.Names.{placeOf, isSome, isIn}
-use Rattle.rows.specs.Rows.{rowCount, rowNames, watched, updateBoard}
+use Rattle.rows.specs.Rows.{rowNames, watched, updateBoard}
 use Rattle.rows.specs.Entries.{Entry, entryName, boardShowing}
 use Rattle.rows.specs.declared.Board.{Board}
 use Rattle.rows.proofs.NameLaws.{in-used, empty-unused, used-first}
@@ -30,9 +30,9 @@ rows-named [] h = refl
 rows-named (e ∷ es) h = ap₂ (λ (n : List ℕ) (l : List (List ℕ)). n ∷ l) (fresh-name (e .name) (h .0)) (rows-named es (h .1))
 
 -- these are the names that it watches
-pub showing-watched : (es : List Entry) → Fits (map entryName es) → watched (boardShowing rowCount es) ≡ map entryName es
-showing-watched es h =
-    rw (showing-names es (rows-named es h)) (used-first (map entryName es) (rowCount - length es) (none-empty (map entryName es) h))
+pub showing-watched : (count : ℕ) (es : List Entry) → Fits (map entryName es) → watched (boardShowing count es) ≡ map entryName es
+showing-watched count es h =
+    rw (showing-names count es (rows-named es h)) (used-first (map entryName es) (count - length es) (none-empty (map entryName es) h))
 
 -- 01, The board: of a list that is accepted each name is valid, none stands twice, and there are no more than the limit
 names-good : {limit : ℕ} (skip : ℕ) (names : List (List ℕ)) (rest : List ℕ) (out : List (List ℕ)) → Good limit names → namesFrom limit skip names rest ≡ some out → Good limit out

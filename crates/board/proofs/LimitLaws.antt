@@ -1,31 +1,24 @@
 -- Two limits on the names of a watch list: the names that the smaller one gives are those of the larger one, where they are no more than
 -- it, since up to there each name joins by either.
 use mathlib.Core.Path.{_≡_, refl}
-use mathlib.Core.Bool.{Bool, true, false, cond, not, _&&_}
+use mathlib.Core.Bool.{Bool, true, false, cond, _&&_}
 use mathlib.Core.List.{List, [], _∷_, _++_}
 use mathlib.Core.Option.{Option, none}
 use Prim.Native.Nat.{ℕ, zero, suc, _≤_, _<_}
 use native.Mathlib.Omega.{arith}
 use lib.Dec.{ltb}
 use lib.ListN.{length, take, length-append}
-use borrow.Author.Tests.{ltb-true, ltb-false, lt-ltb, le-ltb, le-leb, lt-leb}
+use borrow.Author.Tests.{ltb-true, ltb-false, lt-ltb, le-leb, lt-leb}
 use Rattle.slices.specs.HighFirst.{pairOf}
-use Rattle.packet.specs.Names.{validName}
-use Rattle.rows.specs.Names.{isIn}
 use Rattle.board.specs.WatchList.{mayJoin, isWhole, namesFrom, watchNames}
 use Rattle.board.specs.OldDisplays.{atMost}
-use Rattle.board.proofs.WatchLaws.{never}
+use Rattle.board.proofs.WatchLaws.{never, join-full}
 
 module _ (small large : ℕ) (less : small ≤ large) where
   -- while there is room for both, a name joins by both
   pub join-both : (names : List (List ℕ)) (name : List ℕ) → length names < small → mayJoin small names name ≡ mayJoin large names name
   unfolding mayJoin
   join-both names name room = rw (lt-ltb (length names) small room, lt-ltb (length names) large (omega arith))
-
-  -- without room for it none joins
-  pub join-full : (names : List (List ℕ)) (name : List ℕ) → small ≤ length names → mayJoin small names name ≡ false
-  unfolding mayJoin
-  join-full names name full = rw (le-ltb (length names) small full, never (not (isIn name names)), never (validName name))
 
   -- what holds of the names behind a field holds where the field is refused too
   without : (t : Bool) (o : Option (List (List ℕ))) → atMost small o ≡ none → atMost small (cond t o none) ≡ none
@@ -64,7 +57,7 @@ module _ (small large : ℕ) (less : small ≤ large) where
         rw (join-both names name room) (through (whole && mayJoin large names name) (next small) (next large) (below (omega (arith, one-more))))
 
     field-full : small ≤ length names → (small < length with-name → atMost small (next large) ≡ none) → field small ≡ atMost small (field large)
-    field-full full below = rw (join-full names name full, never whole, field-too-many full below)
+    field-full full below = rw (join-full small names name full, never whole, field-too-many full below)
 
   -- where there are too many names, more do not help
   too-many : (skip : ℕ) (names : List (List ℕ)) (rest : List ℕ) → small < length names → atMost small (namesFrom large skip names rest) ≡ none

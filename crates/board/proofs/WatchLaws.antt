@@ -3,10 +3,11 @@ use mathlib.Core.Path.{_≡_, refl, ap, _∙_}
 use mathlib.Core.Bool.{Bool, true, false, not, _&&_}
 use mathlib.Core.List.{List, [], _∷_, _++_, map}
 use mathlib.Core.Option.{Option, some, none}
-use Prim.Native.Nat.{ℕ, suc, _+_, _-_}
+use Prim.Native.Nat.{ℕ, suc, _+_, _-_, _≤_}
 use native.Mathlib.Omega.{arith}
 use lib.Dec.{ltb}
 use lib.ListN.{length, replicate, length-append, length-map}
+use borrow.Author.Tests.{le-ltb}
 use Rattle.packet.specs.Names.{validName}
 use Rattle.slices.proofs.Impossible.{impossible}
 use Rattle.rows.specs.Names.{placeOf, isIn}
@@ -23,6 +24,11 @@ use Rattle.board.proofs.NameLaws.{valid-fit, Fits, none-empty, fresh-na
 pub never : (t : Bool) → (t && false) ≡ false
 never true = refl
 never false = refl
+
+-- where there are as many names as the limit none joins
+pub join-full : (limit : ℕ) (names : List (List ℕ)) (name : List ℕ) → limit ≤ length names → mayJoin limit names name ≡ false
+unfolding mayJoin
+join-full limit names name full = rw (le-ltb (length names) limit full, never (not (isIn name names)), never (validName name))
 
 change-unused : (names : List (List ℕ)) (name : List ℕ) (k : ℕ) → changeAt (λ (old : Row). freshRow name) (length names) (map freshRow (names ++ replicate (suc k) [])) ≡ map freshRow (names ++ (name ∷ []) ++ replicate k [])
 unfolding changeAt

@@ -81,7 +81,7 @@ module _ (names : List (List ℕ)) (cs : List Call) (left : List Left) (end : Di
   abbrev c : Call
   c = piece bytes reply packet
 
-  one-call : Gives names (step l c) more end₁
+  one-call : Gives rowCount names (step l c) more end₁
   one-call = next-call a next
 
   ledger-is : l ≡ afterHistory (start names) (history cs left)

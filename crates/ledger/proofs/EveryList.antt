@@ -43,32 +43,32 @@ pub fresh-named : (names : List (List ℕ)) → map nameOf (map unheard names) �
 fresh-named [] = refl
 fresh-named (n ∷ names) = ap (λ (l : List (List ℕ)). n ∷ l) (fresh-named names)
 
-pub fresh-agrees : (names : List (List ℕ)) → Agrees names (start names) (display.fresh (boardOf rowCount names))
-fresh-agrees names =
+pub fresh-agrees : (count : ℕ) (names : List (List ℕ)) → Agrees count names (start names) (display.fresh (boardOf count names))
+fresh-agrees count names =
     record {
       ours = ours-fresh;
       standing = refl;
       last-is = refl;
       counts-are = refl;
-      shows = record { showing = fresh-showing rowCount names ∙ ap (boardShowing rowCount) (fresh-shown names); named = fresh-named names };
+      shows = record { showing = fresh-showing count names ∙ ap (boardShowing count) (fresh-shown names); named = fresh-named names };
     }
 
 -- after some calls display and ledger agree, and all that was left is what the ledger gives
-pub record Agreed (names : List (List ℕ)) (l : Ledger) (cs : List Call) (left : List Left) (end : Display) : Type 0 where
+pub record Agreed (count : ℕ) (names : List (List ℕ)) (l : Ledger) (cs : List Call) (left : List Left) (end : Display) : Type 0 where
   pub gives : left ≡ map (asLeft names) (given l cs)
-  pub agrees : Agrees names (after l cs) end
+  pub agrees : Agrees count names (after l cs) end
 
-pub chain-agrees : (names : List (List ℕ)) → Fits names → (l : Ledger) {d end : Display} {cs : List Call} {left : List Left}
-    → Chain d cs left end → Agrees names l d → Agreed names l cs left end
+pub chain-agrees : {count : ℕ} (names : List (List ℕ)) → Fits names → (l : Ledger) {d end : Display} {cs : List Call} {left : List Left}
+    → Chain d cs left end → Agrees count names l d → Agreed count names l cs left end
 unfolding given after
 chain-agrees names fit l done a = record { gives = refl; agrees = a }
 chain-agrees names fit l (receives {d = d} {bytes = bytes} {reply = reply} {packet = packet} r rest) a =
     let first = piece-agrees names fit l d a bytes reply packet _ _ _ (received r) in
     let more = chain-agrees names fit (step l (answers.piece bytes reply packet) .ledger) rest (first .agrees) in
     record { gives = ap₂ (λ (x : Left) (xs : List Left). x ∷ xs) (first .gives) (more .gives); agrees = more .agrees }
-chain-agrees names fit l (ticks {d = d} t rest) a =
+chain-agrees {count} names fit l (ticks {d = d} t rest) a =
     let first = tick-agrees names l d a in
-    let more = chain-agrees names fit (step l answers.tick .ledger) rest (rw t (first .agrees)) in
+    let more = chain-agrees {count = count} names fit (step l answers.tick .ledger) rest (rw t (first .agrees)) in
     record { gives = ap₂ (λ (x : Left) (xs : List Left). x ∷ xs) (first .gives) (more .gives); agrees = more .agrees }
 
 -- the names of a fresh start are those of its watch list
@@ -79,7 +79,7 @@ same-names a b = cc
 pub record Agreeing (names : List (List ℕ)) (cs : List Call) (left : List Left) (end : Display) : Type 0 where
   pub good : Good rowCount names
   pub fit : Fits names
-  pub all : Agreed names (start names) cs left end
+  pub all : Agreed rowCount names (start names) cs left end
 
 pub agreeing : {w : WatchList} {names : List (List ℕ)} → namesIn w ≡ some names → {d end : Display} → Begins w d → {cs : List Call} {left : List Left}
     → Chain d cs left end → Agreeing names cs left end
@@ -92,12 +92,12 @@ agreeing {w = w} {names = names} listed {d = d} begins chain =
     record {
       good = good;
       fit = fit;
-      all = chain-agrees names fit (start names) chain (subst⁻¹ (λ (x : Display). Agrees names (start names) x) is (fresh-agrees names));
+      all = chain-agrees names fit (start names) chain (subst⁻¹ (λ (x : Display). Agrees rowCount names (start names) x) is (fresh-agrees rowCount names));
     }
 
 -- the next call, by the ledger that the calls before it left
 pub next-call : {names : List (List ℕ)} {cs : List Call} {left : List Left} {end : Display} → Agreeing names cs left end
-    → {c : Call} {more : Left} {end₁ : Display} → Chain end (c ∷ []) (more ∷ []) end₁ → Gives names (step (after (start names) cs) c) more end₁
+    → {c : Call} {more : Left} {end₁ : Display} → Chain end (c ∷ []) (more ∷ []) end₁ → Gives rowCount names (step (after (start names) cs) c) more end₁
 unfolding given after
 next-call {names = names} {cs = cs} a next =
     let one = chain-agrees names (a .fit) (after (start names) cs) next (a .all .agrees) in

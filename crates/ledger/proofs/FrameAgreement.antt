@@ -26,14 +26,14 @@ use Rattle.ledger.proofs.CountAgreement.{count-again, count-heard, coun
 use Rattle.ledger.proofs.FrameOutcomes.{asLast, linkOutcome, Shows, EffectsOf}
 use Rattle.ledger.proofs.PacketAgreement.{new-agrees}
 
-module _ (names : List (List ℕ)) (fit : Fits names) (w : Walk) (l : Ledger) (board : Board) (shows₀ : Shows names (l .hives .entries) board) where
+module _ {count : ℕ} (names : List (List ℕ)) (fit : Fits names) (w : Walk) (l : Ledger) (board : Board) (shows₀ : Shows count names (l .hives .entries) board) where
   abbrev outcome : Frame → Outcome
   outcome f = linkOutcome f (asLast (l .line .sequence)) (asCounts (l .line .counts))
 
   -- a call that leaves the board as it was
   kept-agrees : (o : Outcome) (e : Effect) (said : display-answer.Answer) → resultOf (o .answer) board (callOf w o) ≡ keepBoard (received (callOf w o)) board said
       → said ≡ asAnswer names (e .answer) → o .reply ≡ e .reply → o .packet ≡ e .packet → o .last ≡ asLast (e .ledger .line .sequence)
-      → o .counts ≡ asCounts (e .ledger .line .counts) → e .ledger .hives .entries ≡ l .hives .entries → EffectsOf names board w o e
+      → o .counts ≡ asCounts (e .ledger .line .counts) → e .ledger .hives .entries ≡ l .hives .entries → EffectsOf count names board w o e
   kept-agrees o e said is answer reply packet last counts same =
       rw is
       (record {
@@ -48,13 +48,13 @@ module _ (names : List (List ℕ)) (fit : Fits names) (w : Walk) (l : Ledger) (b
         shows = rw same shows₀;
       })
 
-  refused-agrees : (n : ℕ) → EffectsOf names board w (outcome (frames.refused n)) (closed l (frames.refused n))
+  refused-agrees : (n : ℕ) → EffectsOf count names board w (outcome (frames.refused n)) (closed l (frames.refused n))
   refused-agrees n = kept-agrees (outcome (frames.refused n)) _ (says.Refused n) refl refl refl refl refl (count-refused (l .line .counts) n) refl
 
-  heard-agrees : (sequence : ℕ) → EffectsOf names board w (outcome (frames.acknowledgement sequence)) (closed l (frames.acknowledgement sequence))
+  heard-agrees : (sequence : ℕ) → EffectsOf count names board w (outcome (frames.acknowledgement sequence)) (closed l (frames.acknowledgement sequence))
   heard-agrees sequence = kept-agrees (outcome (frames.acknowledgement sequence)) _ (says.Heard sequence) refl refl refl refl refl (count-heard (l .line .counts)) refl
 
-  again-agrees : (sequence : ℕ) → EffectsOf names board w (againFrame sequence (asLast (l .line .sequence)) (asCounts (l .line .counts))) (calls.repeatedFrame l sequence)
+  again-agrees : (sequence : ℕ) → EffectsOf count names board w (againFrame sequence (asLast (l .line .sequence)) (asCounts (l .line .counts))) (calls.repeatedFrame l sequence)
   unfolding acknowledgement
   again-agrees sequence =
       kept-agrees (againFrame sequence (asLast (l .line .sequence)) (asCounts (l .line .counts))) _ (says.Again (length (acknowledgement sequence))) refl refl refl refl refl (count-again (l .line .counts)) refl
@@ -64,7 +64,7 @@ module _ (names : List (List ℕ)) (fit : Fits names) (w : Walk) (l : Ledger) (b
   same-repeats (some before) sequence = refl
 
   -- a frame that was closed
-  pub frame-agrees : (f : Frame) → EffectsOf names board w (outcome f) (closed l f)
+  pub frame-agrees : (f : Frame) → EffectsOf count names board w (outcome f) (closed l f)
   unfolding dataFrame
   frame-agrees (frames.refused n) = refused-agrees n
   frame-agrees (frames.acknowledgement sequence) = heard-agrees sequence
@@ -72,7 +72,7 @@ module _ (names : List (List ℕ)) (fit : Fits names) (w : Walk) (l : Ledger) (b
       rw (same-repeats (l .line .sequence) sequence) (by-last (repeated (l .line .sequence) sequence))
     where
       by-last : (t : Bool)
-          → EffectsOf names board w (cond t (againFrame sequence (asLast (l .line .sequence)) (asCounts (l .line .counts))) (newFrame sequence payload (asCounts (l .line .counts))))
+          → EffectsOf count names board w (cond t (againFrame sequence (asLast (l .line .sequence)) (asCounts (l .line .counts))) (newFrame sequence payload (asCounts (l .line .counts))))
           (cond t (calls.repeatedFrame l sequence) (calls.newFrame l sequence payload))
       by-last true = again-agrees sequence
       by-last false = new-agrees names fit w l board shows₀ sequence payload
@@ -82,5 +82,5 @@ module _ (names : List (List ℕ)) (fit : Fits names) (w : Walk) (l : Ledger) (b
   nothingDone = record { last = asLast (l .line .sequence); counts = asCounts (l .line .counts); answer = link-says.Nothing; reply = []; packet = [] }
 
   pub nothing-agrees : (o : Outcome) → o ≡ nothingDone
-      → EffectsOf names board w o (record { ledger = l; answer = answers.nothing; reply = []; packet = [] })
-  nothing-agrees o e = subst⁻¹ (λ (x : Outcome). EffectsOf names board w x (record { ledger = l; answer = answers.nothing; reply = []; packet = [] })) e (kept-agrees nothingDone _ says.Nothing refl refl refl refl refl refl refl)
+      → EffectsOf count names board w o (record { ledger = l; answer = answers.nothing; reply = []; packet = [] })
+  nothing-agrees o e = subst⁻¹ (λ (x : Outcome). EffectsOf count names board w x (record { ledger = l; answer = answers.nothing; reply = []; packet = [] })) e (kept-agrees nothingDone _ says.Nothing refl refl refl refl refl refl refl)

@@ -10,7 +10,6 @@ use lib.ListN.{length}
 use Rattle.slices.proofs.Impossible.{impossible}
 use Rattle.frame.specs.Content as content
 use Rattle.rows.specs.Entries.{boardShowing}
-use Rattle.rows.specs.Rows.{rowCount}
 use Rattle.rows.specs.declared.Board.{Board}
 use Rattle.link.specs.Closing.{Outcome, dataType, acknowledgementType, repeats, acknowledgementFrame, againFrame, newFrame, dataFrame, refusedFrame, readOutcome}
 use Rattle.link.specs.Receiving.{callOf}
@@ -62,13 +61,13 @@ frame-answers (frames.good sequence payload) previous before e = by-last (repeat
     by-last true e = impossible cc
     by-last false e = impossible cc
 
--- the board shows what the ledger holds of each name, and the names are those of the watch list
-pub record Shows (names : List (List ℕ)) (es : List Entry) (board : Board) : Type 0 where
-  pub showing : board ≡ boardShowing rowCount (map asEntry es)
+-- a board of so many rows shows what the ledger holds of each name, and the names are those of the watch list
+pub record Shows (count : ℕ) (names : List (List ℕ)) (es : List Entry) (board : Board) : Type 0 where
+  pub showing : board ≡ boardShowing count (map asEntry es)
   pub named : map nameOf es ≡ names
 
 -- the result of a call and the ledger's effect agree
-pub record Effects (names : List (List ℕ)) (w : Walk) (result : Received) (reply packet : List ℕ) (e : Effect) : Type 0 where
+pub record Effects (count : ℕ) (names : List (List ℕ)) (w : Walk) (result : Received) (reply packet : List ℕ) (e : Effect) : Type 0 where
   pub answers : result .answer ≡ asAnswer names (e .answer)
   pub replied : reply ≡ e .reply
   pub handed : packet ≡ e .packet
@@ -77,8 +76,8 @@ pub record Effects (names : List (List ℕ)) (w : Walk) (result : Received) (rep
   pub reader-is : result .display .link .reader ≡ w .reader
   pub last-is : result .display .link .last ≡ asLast (e .ledger .line .sequence)
   pub counts-are : result .display .link .counts ≡ asCounts (e .ledger .line .counts)
-  pub shows : Shows names (e .ledger .hives .entries) (result .display .board)
+  pub shows : Shows count names (e .ledger .hives .entries) (result .display .board)
 
 -- they agree for what an outcome makes of the display
-abbrev pub EffectsOf : List (List ℕ) → Board → Walk → Outcome → Effect → Type 0
-EffectsOf names board w o e = Effects names w (resultOf (o .answer) board (callOf w o)) (o .reply) (o .packet) e
+abbrev pub EffectsOf : ℕ → List (List ℕ) → Board → Walk → Outcome → Effect → Type 0
+EffectsOf count names board w o e = Effects count names w (resultOf (o .answer) board (callOf w o)) (o .reply) (o .packet) e

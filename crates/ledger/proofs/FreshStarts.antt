@@ -3,7 +3,7 @@
 use mathlib.Core.Path.{_≡_, refl, sym, ap, _∙_}
 use mathlib.Core.List.{List, [], _∷_, _++_, append-assoc, append-nil}
 use mathlib.Core.Option.{Option, some, none}
-use Prim.Native.Nat.{ℕ, _<_}
+use Prim.Native.Nat.{ℕ, _≤_, _<_}
 use lib.ListN.{length}
 use Rattle.slices.proofs.Impossible.{impossible}
 use Rattle.slices.proofs.Lent.{in-call}
@@ -15,7 +15,7 @@ use Rattle.board.specs.declared.list.Watched.{Watched}
 use Rattle.board.proofs.EntryLaws.{list-good}
 use Rattle.board.proofs.GoodLists.{may-join, good-listed, too-many-refused}
 use Rattle.board.proofs.NameLaws.{good-none, good-more}
-use Rattle.board.proofs.WatchLaws.{watch-more, accepted-joins}
+use Rattle.board.proofs.WatchLaws.{join-full, watch-more, watch-refused, accepted-joins}
 use Rattle.display.specs.Display as display
 use Rattle.display.specs.declared.Display.{Display}
 use Rattle.ledger.specs.Answers.{WatchList, as-bytes, one-by-one, namesIn}
@@ -44,23 +44,33 @@ from-list fields watched d told accepted started = cases (watchNames rowCount fi
         let board-is = ap (λ (w : Watched). w .board) (told ∙ ap (asWatched rowCount) e) in
         record { names = names; listed = e; good = list-good fields names e; is = started ∙ ap display.fresh board-is }
 
--- one name more, on the board of those before it
+some-names : {names names₁ : List (List ℕ)} → _≡_ {A = Option (List (List ℕ))} (some names) (some names₁) → names₁ ≡ names
+some-names e = cc
+
+-- what a call of `board::watch` told, on the board of the names before it
+pub record Told (names : List (List ℕ)) (name : List ℕ) (watched : Watched) : Type 0 where
+  pub good : Good rowCount names
+  pub is : watched ≡ watchBoard rowCount (boardOf rowCount names) name
+
+told-by : (names : List (List ℕ)) (name : List ℕ) (d : Display) → Began (one-by-one names) d → (watched : Watched) → Watches (d .board) name watched → Told names name watched
+told-by names name d b watched watches =
+    let same = some-names (b .listed) in
+    let told : watched ≡ watchBoard rowCount (d .board) name = rw (watches .input-lent .holds) at (watches .learnt) in
+    let board-is : d .board ≡ boardOf rowCount names = ap (λ (x : Display). x .board) (b .is) ∙ ap (boardOf rowCount) same in
+    record { good = rw same at (b .good); is = told ∙ ap (λ (x : Board). watchBoard rowCount x name) board-is }
+
+-- one that was accepted joins them
 record Joined (names : List (List ℕ)) (name : List ℕ) (board : Board) : Type 0 where
   good : Good rowCount (names ++ (name ∷ []))
   is : board ≡ boardOf rowCount (names ++ (name ∷ []))
 
-joined : (names : List (List ℕ)) (name : List ℕ) (board : Board) (watched : Watched) → Good rowCount names → board ≡ boardOf rowCount names → watched ≡ watchBoard rowCount board name
-    → watched .answer ≡ Accepted → Joined names name (watched .board)
-joined names name board watched good board-is told accepted =
-    let is : watched ≡ watchBoard rowCount (boardOf rowCount names) name = told ∙ ap (λ (b : Board). watchBoard rowCount b name) board-is in
-    let joins = accepted-joins names name good (ap (λ (w : Watched). w .answer) (sym is) ∙ accepted) in
+joined : (names : List (List ℕ)) (name : List ℕ) (watched : Watched) → Told names name watched → watched .answer ≡ Accepted → Joined names name (watched .board)
+joined names name watched told accepted =
+    let joins = accepted-joins names name (told .good) (ap (λ (w : Watched). w .answer) (sym (told .is)) ∙ accepted) in
     record {
-      good = good-more names name good joins;
-      is = ap (λ (w : Watched). w .board) (is ∙ watch-more names name good joins);
+      good = good-more names name (told .good) joins;
+      is = ap (λ (w : Watched). w .board) (told .is ∙ watch-more names name (told .good) joins);
     }
-
-some-names : {names names₁ : List (List ℕ)} → _≡_ {A = Option (List (List ℕ))} (some names) (some names₁) → names₁ ≡ names
-some-names e = cc
 
 pub began : (w : WatchList) (d : Display) → Begins w d → Began w d
 began (as-bytes fields) d (from-bytes {watched = watched} lists accepted started) =
@@ -68,12 +78,13 @@ began (as-bytes fields) d (from-bytes {watched = watched} lists accepted started
 began (one-by-one ns) d (no-names made started) =
     record { names = []; listed = refl; good = good-none; is = started ∙ ap display.fresh made }
 began (one-by-one ns) d (one-more {names = names} {name = name} {watched = watched} {d = d₀} before watches accepted started) =
-    let so-far = began (one-by-one names) d₀ before in
-    let same = some-names (so-far .listed) in
-    let told : watched ≡ watchBoard rowCount (d₀ .board) name = rw (watches .input-lent .holds) at (watches .learnt) in
-    let board-is : d₀ .board ≡ boardOf rowCount names = ap (λ (x : Display). x .board) (so-far .is) ∙ ap (boardOf rowCount) same in
-    let j = joined names name (d₀ .board) watched (rw same at (so-far .good)) board-is told accepted in
+    let told = told-by names name d₀ (began (one-by-one names) d₀ before) watched watches in
+    let j = joined names name watched told accepted in
     record { names = names ++ (name ∷ []); listed = refl; good = j .good; is = started ∙ ap display.fresh (j .is) }
+
+pub name-told : (names : List (List ℕ)) (name : List ℕ) (d : Display) → Begins (one-by-one names) d → (watched : Watched) → Watches (d .board) name watched
+    → Told names name watched
+name-told names name d begins = told-by names name d (began (one-by-one names) d begins)
 
 -- THEOREM. Every call of `board::watch_list` with the fields of a good list of names is accepted, with the board of the names.
 pub good-list-accepted : (names : List (List ℕ)) → Good rowCount names → (watched : Watched) → Lists (fieldsOf names) watched → watched ≡ acceptedWith (boardOf rowCount names)
@@ -84,26 +95,19 @@ good-list-accepted names good watched lists = list-told (fieldsOf names) watched
 pub too-many-names-refused : (names : List (List ℕ)) → rowCount < length names → (watched : Watched) → Lists (fieldsOf names) watched → watched ≡ refusedWith (boardOf rowCount [])
 too-many-names-refused names many watched lists = list-told (fieldsOf names) watched lists ∙ ap (asWatched rowCount) (too-many-refused names many)
 
--- what a call of `board::watch` told, on the board of the names before
-pub record Told (names : List (List ℕ)) (name : List ℕ) (watched : Watched) : Type 0 where
-  pub good : Good rowCount names
-  pub is : watched ≡ watchBoard rowCount (boardOf rowCount names) name
-
-pub name-told : (names : List (List ℕ)) (name : List ℕ) (d : Display) → Begins (one-by-one names) d → (watched : Watched) → Watches (d .board) name watched
-    → Told names name watched
-name-told names name d begins watched watches =
-    let b = began (one-by-one names) d begins in
-    let same = some-names (b .listed) in
-    let told : watched ≡ watchBoard rowCount (d .board) name = rw (watches .input-lent .holds) at (watches .learnt) in
-    let board-is : d .board ≡ boardOf rowCount names = ap (λ (x : Display). x .board) (b .is) ∙ ap (boardOf rowCount) same in
-    record { good = rw same at (b .good); is = told ∙ ap (λ (x : Board). watchBoard rowCount x name) board-is }
-
 -- THEOREM. Every call of `board::watch` with a name that makes a good list with those before it is accepted, with the board of all of them.
 pub good-name-accepted : (names : List (List ℕ)) (name : List ℕ) (d : Display) → Begins (one-by-one names) d → Good rowCount (names ++ (name ∷ []))
     → (watched : Watched) → Watches (d .board) name watched → watched ≡ acceptedWith (boardOf rowCount (names ++ (name ∷ [])))
 good-name-accepted names name d begins good watched watches =
     let told = name-told names name d begins watched watches in
     told .is ∙ watch-more names name (told .good) (may-join name [] names good)
+
+-- THEOREM. Every call of `board::watch` with one name more than rows, whatever it is, is refused with 15, and the board is as it was.
+pub too-many-by-name-refused : (names : List (List ℕ)) (name : List ℕ) (d : Display) → Begins (one-by-one names) d → rowCount ≤ length names
+    → (watched : Watched) → Watches (d .board) name watched → watched ≡ refusedWith (boardOf rowCount names)
+too-many-by-name-refused names name d begins full watched watches =
+    let told = name-told names name d begins watched watches in
+    told .is ∙ watch-refused names name (told .good) (join-full rowCount names name full)
 
 -- THEOREM. From every list that is accepted there is a fresh start.
 pub accepted-begins : (fields : List ℕ) (names : List (List ℕ)) → watchNames rowCount fields ≡ some names → Begins (as-bytes fields) (display.fresh (boardOf rowCount names))

@@ -8,7 +8,6 @@ use Prim.Native.Nat.{ℕ, _≤_, _<_}
 use native.Mathlib.Omega.{arith}
 use lib.ListN.{length, length-append, length-map}
 use borrow.Author.Tests.{le-leb, lt-leb}
-use Rattle.rows.specs.Entries.{boardShowing}
 use Rattle.rows.specs.OldRows.{oldRowCount, SameRows}
 use Rattle.rows.specs.Rows.{rowCount, watched, boardOf}
 use Rattle.rows.proofs.OldRowLaws.{same-rows, same-fresh}
@@ -17,9 +16,10 @@ use Rattle.board.specs.OldDisplays.{oldListed, oldWatched, atMost, ReadAsBefore
 use Rattle.board.specs.declared.list.Watched.{Watched}
 use Rattle.board.proofs.EntryLaws.{list-good}
 use Rattle.board.proofs.GoodLists.{fields-listed, too-many-refused}
-use Rattle.board.proofs.LimitLaws.{join-both, join-full, list-at-most}
+use Rattle.board.proofs.LimitLaws.{join-both, list-at-most}
 use Rattle.board.proofs.NameLaws.{good-fits, watched-names}
-use Rattle.board.proofs.WatchLaws.{watch-more, watch-refused}
+use Rattle.board.proofs.WatchLaws.{join-full, watch-more, watch-refused}
+use Rattle.display.specs.Display as display
 use Rattle.display.specs.declared.Display.{Display}
 use Rattle.ledger.specs.Ledger.{nameOf, start}
 use Rattle.ledger.specs.Answers.{WatchList, one-by-one, namesIn, Call}
@@ -27,13 +27,13 @@ use Rattle.ledger.specs.Calls.{after}
 use Rattle.ledger.specs.Shown.{asEntry, Left}
 use Rattle.ledger.proofs.Chain.{Begins, Chain, Lists, Watches}
 use Rattle.ledger.proofs.FreshStarts.{list-told, Told, name-told}
-use Rattle.ledger.proofs.EveryList.{agreeing}
+use Rattle.ledger.proofs.EveryList.{fresh-agrees, chain-agrees, agreeing}
 
 -- an old display has fewer rows
 few-rows : oldRowCount ≤ rowCount
 few-rows = omega arith
 
--- the boards of up to sixteen names, accepted or, without a name, of a refusal
+-- the boards of up to sixteen names, after an answer that is the same
 accepted-alike : (names : List (List ℕ)) → length names ≤ oldRowCount → ReadAsBefore (acceptedWith (boardOf oldRowCount names)) (acceptedWith (boardOf rowCount names))
 accepted-alike names few = record { answer = refl; rows = same-fresh names few }
 
@@ -59,27 +59,27 @@ module _ (fields : List ℕ) where
       ap (asWatched oldRowCount) unlisted
 
   module _ (today : Watched) (lists : Lists fields today) where
-    is-none : watchNames rowCount fields ≡ none → today ≡ refusedWith (boardOf rowCount [])
-    is-none e = list-told fields today lists ∙ ap (asWatched rowCount) e
+    -- where no more than sixteen names are accepted
+    read-alike : ((names : List (List ℕ)) → watchNames rowCount fields ≡ some names → length names ≤ oldRowCount) → ReadAsBefore (oldListed fields) today
+    read-alike short = cases (watchNames rowCount fields) refl
+      where
+        told : (o : Option (List (List ℕ))) → watchNames rowCount fields ≡ o → today ≡ asWatched rowCount o
+        told o e = list-told fields today lists ∙ ap (asWatched rowCount) e
 
-    is-some : (names : List (List ℕ)) → watchNames rowCount fields ≡ some names → today ≡ acceptedWith (boardOf rowCount names)
-    is-some names e = list-told fields today lists ∙ ap (asWatched rowCount) e
+        cases : (o : Option (List (List ℕ))) → watchNames rowCount fields ≡ o → ReadAsBefore (oldListed fields) today
+        cases none e = rw (told none e, old-none e) (refused-alike [] (omega arith))
+        cases (some names) e = rw (told (some names) e, old-few names e (short names e)) (accepted-alike names (short names e))
 
     -- the board then watches the names of the list
-    pub watches-names : (names : List (List ℕ)) → watchNames rowCount fields ≡ some names → watched (today .board) ≡ names
+    watches-names : (names : List (List ℕ)) → watchNames rowCount fields ≡ some names → watched (today .board) ≡ names
     watches-names names e =
-        ap (λ (w : Watched). watched (w .board)) (is-some names e) ∙ watched-names rowCount names (good-fits names (list-good fields names e .valid))
+        ap (λ (w : Watched). watched (w .board)) (list-told fields today lists ∙ ap (asWatched rowCount) e)
+        ∙ watched-names rowCount names (good-fits names (list-good fields names e .valid))
 
     -- THEOREM. Every call of `board::watch_list` after which the board watches at most sixteen names, none after a refusal: an old display
     -- gives the same answer, and has the same rows.
     pub list-as-before : length (watched (today .board)) ≤ oldRowCount → ReadAsBefore (oldListed fields) today
-    list-as-before few = cases (watchNames rowCount fields) refl
-      where
-        cases : (o : Option (List (List ℕ))) → watchNames rowCount fields ≡ o → ReadAsBefore (oldListed fields) today
-        cases none e = rw (is-none e, old-none e) (refused-alike [] (omega arith))
-        cases (some names) e =
-            let short : length names ≤ oldRowCount = rw (watches-names names e) at few in
-            rw (is-some names e, old-few names e short) (accepted-alike names short)
+    list-as-before few = read-alike (λ names e. rw (watches-names names e) at few)
 
     -- THEOREM. Every call after which it watches more: an old display refuses the list with 15, and shows none of it.
     pub longer-refused : oldRowCount < length (watched (today .board)) → oldListed fields ≡ refusedWith (boardOf oldRowCount [])
@@ -92,13 +92,7 @@ module _ (fields : List ℕ) where
 -- THEOREM. The fields of any names, good or bad, up to sixteen: an old display gives the same answer, and has the same rows.
 pub names-as-before : (names : List (List ℕ)) → length names ≤ oldRowCount → (today : Watched) → Lists (fieldsOf names) today
     → ReadAsBefore (oldListed (fieldsOf names)) today
-names-as-before names few today lists = cases (watchNames rowCount (fieldsOf names)) refl
-  where
-    cases : (o : Option (List (List ℕ))) → watchNames rowCount (fieldsOf names) ≡ o → ReadAsBefore (oldListed (fieldsOf names)) today
-    cases none e = rw (is-none (fieldsOf names) today lists e, old-none (fieldsOf names) e) (refused-alike [] (omega arith))
-    cases (some out) e =
-        let short : length out ≤ oldRowCount = rw (fields-listed rowCount names out e) few in
-        rw (is-some (fieldsOf names) today lists out e, old-few (fieldsOf names) out e short) (accepted-alike out short)
+names-as-before names few today lists = read-alike (fieldsOf names) today lists (λ out e. rw (fields-listed rowCount names out e) few)
 
 -- THEOREM. The fields of any names, good or bad, more than sixteen: an old display refuses the list with 15, and shows none of it.
 pub more-names-refused : (names : List (List ℕ)) → oldRowCount < length names → oldListed (fieldsOf names) ≡ refusedWith (boardOf oldRowCount [])
@@ -130,16 +124,33 @@ name-as-before names name d begins few today watches = cases (mayJoin rowCount n
 -- THEOREM. A seventeenth name, whatever it is, an old display refuses with 15.
 pub seventeenth-refused : (names : List (List ℕ)) (name : List ℕ) → Good oldRowCount names → length names ≡ oldRowCount
     → oldWatched names name ≡ refusedWith (boardOf oldRowCount names)
-seventeenth-refused names name good full = watch-refused names name good (join-full oldRowCount rowCount few-rows names name (omega arith))
+seventeenth-refused names name good full = watch-refused names name good (join-full oldRowCount names name (omega arith))
 
--- THEOREM. After every list of calls from a fresh start with at most sixteen names the first sixteen rows are those of an old display, and
--- the others are unused. What the ledger holds, and so what it answers, does not ask for the number of rows.
-pub rows-as-before : (w : WatchList) (d : Display) → Begins w d → (names : List (List ℕ)) → namesIn w ≡ some names → length names ≤ oldRowCount
-    → (cs : List Call) (left : List Left) (end : Display) → Chain d cs left end
-    → SameRows (boardShowing oldRowCount (map asEntry (after (start names) cs .hives .entries))) (end .board)
-rows-as-before w d begins names listed few cs left end chain =
-    let shows = agreeing listed begins chain .all .agrees .shows in
+-- What is shown afterwards. The contracts of `display::receive` and `display::tick` do not ask for the number of rows, so a chain of calls
+-- speaks of an old display too; it starts with the board of sixteen rows that the list gave.
+abbrev pub oldStart : List (List ℕ) → Display
+oldStart names = display.fresh (boardOf oldRowCount names)
+
+-- the same calls: the answers and the bytes left in the buffers are the same, call by call, and afterwards the counts and the rows are
+pub record ShownAsBefore (old-left left : List Left) (old end : Display) : Type 0 where
+  pub answers : left ≡ old-left
+  pub counts : end .link .counts ≡ old .link .counts
+  pub rows : SameRows (old .board) (end .board)
+
+-- THEOREM. With at most sixteen names every list of calls is answered as by an old display that is given the same calls, and shown in the same
+-- rows.
+pub calls-as-before : (w : WatchList) (d : Display) → Begins w d → (names : List (List ℕ)) → namesIn w ≡ some names → length names ≤ oldRowCount
+    → (cs : List Call) (left old-left : List Left) (end old : Display) → Chain d cs left end → Chain (oldStart names) cs old-left old
+    → ShownAsBefore old-left left old end
+calls-as-before w d begins names listed few cs left old-left end old chain old-chain =
+    let today = agreeing listed begins chain in
+    let before = chain-agrees names (today .fit) (start names) old-chain (fresh-agrees oldRowCount names) in
+    let shows = today .all .agrees .shows in
     let entries = after (start names) cs .hives .entries in
     let named : length entries ≡ length names = sym (length-map entries nameOf) ∙ ap length (shows .named) in
     let shown = length-map entries asEntry in
-    rw (shows .showing) (same-rows (map asEntry entries) (omega arith))
+    record {
+      answers = today .all .gives ∙ sym (before .gives);
+      counts = today .all .agrees .counts-are ∙ sym (before .agrees .counts-are);
+      rows = rw (shows .showing, before .agrees .shows .showing) (same-rows (map asEntry entries) (omega arith));
+    }

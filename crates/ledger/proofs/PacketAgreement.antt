@@ -8,7 +8,7 @@ use lib.IntN.{ℤ}
 use lib.ListN.{length, replicate}
 use Rattle.rows.specs.Entries.{entryName, boardShowing}
 use Rattle.rows.specs.Names.{placeOf}
-use Rattle.rows.specs.Rows.{rowCount, rowNames, watched, updateBoard}
+use Rattle.rows.specs.Rows.{rowNames, watched, updateBoard}
 use Rattle.rows.specs.declared.Board.{Board}
 use Rattle.rows.proofs.EntryLaws.{Named, showing-names, update-showing}
 use Rattle.board.specs.Reading as reading
@@ -33,7 +33,7 @@ use Rattle.ledger.proofs.CountAgreement.{count-new, count-unread}
 use Rattle.ledger.proofs.RowAgreement.{entries-updated, names-updated, names-shown, place-listed}
 use Rattle.ledger.proofs.FrameOutcomes.{asLast, Shows, Effects, EffectsOf}
 
-module _ (names : List (List ℕ)) (fit : Fits names) (w : Walk) (l : Ledger) (board : Board) (shows₀ : Shows names (l .hives .entries) board) where
+module _ {count : ℕ} (names : List (List ℕ)) (fit : Fits names) (w : Walk) (l : Ledger) (board : Board) (shows₀ : Shows count names (l .hives .entries) board) where
   -- the names that the board watches are the ledger's
   shown-are : map entryName (map asEntry (l .hives .entries)) ≡ names
   shown-are = names-shown (l .hives .entries) ∙ shows₀ .named
@@ -42,7 +42,7 @@ module _ (names : List (List ℕ)) (fit : Fits names) (w : Walk) (l : Ledger) (b
   rows-have = rows-named (map asEntry (l .hives .entries)) (rw shown-are fit)
 
   watched-is : watched board ≡ map nameOf (l .hives .entries)
-  watched-is = ap watched (shows₀ .showing) ∙ showing-watched (map asEntry (l .hives .entries)) (rw shown-are fit) ∙ names-shown (l .hives .entries)
+  watched-is = ap watched (shows₀ .showing) ∙ showing-watched count (map asEntry (l .hives .entries)) (rw shown-are fit) ∙ names-shown (l .hives .entries)
 
   module _ (sequence : ℕ) (payload : List ℕ) where
     abbrev fresh : Outcome
@@ -59,13 +59,13 @@ module _ (names : List (List ℕ)) (fit : Fits names) (w : Walk) (l : Ledger) (b
 
     abbrev AgreedBy : declared-reading.Reading → Verdict → Type 0
     AgreedBy r v =
-        Effects names w (takeReading (received (callOf w fresh)) (length (acknowledgement sequence)) (length payload) r) (acknowledgement sequence) payload (effectBy v)
+        Effects count names w (takeReading (received (callOf w fresh)) (length (acknowledgement sequence)) (length payload) r) (acknowledgement sequence) payload (effectBy v)
 
     -- one that has been read, by the link's state that it leaves
     read-agrees : (r : declared-reading.Reading) (v : Verdict) (state : Link) → countReading (callOf w fresh .link) (r .answer) ≡ state
         → r .answer ≡ asReading names v → state .content ≡ w .content → state .reader ≡ w .reader
         → state .last ≡ asLast (effectBy v .ledger .line .sequence) → state .counts ≡ asCounts (effectBy v .ledger .line .counts)
-        → Shows names (effectBy v .ledger .hives .entries) (r .board) → AgreedBy r v
+        → Shows count names (effectBy v .ledger .hives .entries) (r .board) → AgreedBy r v
     unfolding acknowledgement
     read-agrees r v state leaves answer of-content of-reader of-last of-counts shows₁ =
         rw (leaves, answer)
@@ -93,9 +93,9 @@ module _ (names : List (List ℕ)) (fit : Fits names) (w : Walk) (l : Ledger) (b
     place-is : (name : List ℕ) → (t : There board name) → placeOf name names ≡ some (t .place)
     place-is name t =
         let es = map asEntry (l .hives .entries) in
-        let in-rows : rowNames board ≡ names ++ replicate (rowCount - length es) [] =
-        ap rowNames (shows₀ .showing) ∙ showing-names es rows-have ∙ ap (λ (ns : List (List ℕ)). ns ++ replicate (rowCount - length es) []) shown-are in
-        sym (place-listed name names (rowCount - length es) 0 (t .named)) ∙ ap (placeOf name) (sym in-rows) ∙ t .stands
+        let in-rows : rowNames board ≡ names ++ replicate (count - length es) [] =
+        ap rowNames (shows₀ .showing) ∙ showing-names count es rows-have ∙ ap (λ (ns : List (List ℕ)). ns ++ replicate (count - length es) []) shown-are in
+        sym (place-listed name names (count - length es) 0 (t .named)) ∙ ap (placeOf name) (sym in-rows) ∙ t .stands
 
     update-agrees : (id : ℕ) (name : List ℕ) (value : ℤ) (t : There board name)
         → AgreedBy (record { board = updateBoard (t .place) value board; answer = board-says.Updated (t .place) id }) (reading.update id name value)
@@ -106,20 +106,20 @@ module _ (names : List (List ℕ)) (fit : Fits names) (w : Walk) (l : Ledger) (b
         (record {
           showing =
               ap (updateBoard (t .place) value) (shows₀ .showing)
-              ∙ update-showing (map asEntry (l .hives .entries)) name (t .place) value rows-have (t .named) stands
-              ∙ ap (boardShowing rowCount) (entries-updated name value (l .hives .entries));
+              ∙ update-showing count (map asEntry (l .hives .entries)) name (t .place) value rows-have (t .named) stands
+              ∙ ap (boardShowing count) (entries-updated name value (l .hives .entries));
           named = names-updated name value (l .hives .entries) ∙ shows₀ .named;
         })
 
-    pub new-agrees : EffectsOf names board w fresh (calls.newFrame l sequence payload)
+    pub new-agrees : EffectsOf count names board w fresh (calls.newFrame l sequence payload)
     new-agrees = by-verdict (readingOf (map nameOf (l .hives .entries)) payload) refl
       where
         by-row : (id : ℕ) (name : List ℕ) (value : ℤ) (t : There board name) → readingOf (watched board) payload ≡ reading.update id name value
-            → readingOf (map nameOf (l .hives .entries)) payload ≡ reading.update id name value → EffectsOf names board w fresh (calls.newFrame l sequence payload)
+            → readingOf (map nameOf (l .hives .entries)) payload ≡ reading.update id name value → EffectsOf count names board w fresh (calls.newFrame l sequence payload)
         by-row id name value t watching e =
             rw (read-update board payload id name value (t .place) watching (t .stands), e) (update-agrees id name value t)
 
-        by-verdict : (v : Verdict) → readingOf (map nameOf (l .hives .entries)) payload ≡ v → EffectsOf names board w fresh (calls.newFrame l sequence payload)
+        by-verdict : (v : Verdict) → readingOf (map nameOf (l .hives .entries)) payload ≡ v → EffectsOf count names board w fresh (calls.newFrame l sequence payload)
         by-verdict (reading.refused n) e =
             let watching = ap (λ (ns : List (List ℕ)). readingOf ns payload) watched-is ∙ e in
             rw (read-refused board payload n watching, e) (unread-agrees n)
@@ -131,7 +131,7 @@ module _ (names : List (List ℕ)) (fit : Fits names) (w : Walk) (l : Ledger) (b
             by-row id name value (update-there board payload id name value watching) watching e
 
     -- so what the board makes of the packet is what the ledger makes of it
-    pub read-shown : readBoard board payload .board ≡ boardShowing rowCount (map asEntry (calls.newFrame l sequence payload .ledger .hives .entries))
+    pub read-shown : readBoard board payload .board ≡ boardShowing count (map asEntry (calls.newFrame l sequence payload .ledger .hives .entries))
     read-shown = new-agrees .shows .showing
 
     pub read-answered : readBoard board payload .answer ≡ asReading names (calls.readingBy l payload)

@@ -49,27 +49,27 @@ same-left : {n n₁ : ℕ} {answer answer₁ : display-answer.Answer} {reply rep
 same-left a b c d = cc
 
 -- what the frame that a walk closed does, if it closed one
-module _ (names : List (List ℕ)) (fit : Fits names) (l : Ledger) (board : Board) (shows₀ : Shows names (l .hives .entries) board)
+module _ {count : ℕ} (names : List (List ℕ)) (fit : Fits names) (l : Ledger) (board : Board) (shows₀ : Shows count names (l .hives .entries) board)
     (last : Last) (counts : link-counts.Counts) (last-is₀ : last ≡ asLast (l .line .sequence)) (counts-are₀ : counts ≡ asCounts (l .line .counts)) where
   walk-effects : (run frame : Option (List ℕ)) (w : Walk) → Reached run frame w
-      → EffectsOf names board w (closeOf (w .ended) (w .content) last counts) (effectOf (withRun l run) frame)
+      → EffectsOf count names board w (closeOf (w .ended) (w .content) last counts) (effectOf (withRun l run) frame)
   unfolding frameOf
   walk-effects run none w r =
       nothing-agrees names fit w (withRun l run) board shows₀ (closeOf (w .ended) (w .content) last counts)
       (ap₂ (λ (x : Last) (y : link-counts.Counts). closeOf (w .ended) (w .content) x y) last-is₀ counts-are₀
       ∙ ap (λ (end : Ended). closeOf end (w .content) (asLast (l .line .sequence)) (asCounts (l .line .counts))) (r .0))
   walk-effects run (some frame) w r =
-      subst⁻¹ (λ (o : Outcome). EffectsOf names board w o (effectOf (withRun l run) (some frame)))
+      subst⁻¹ (λ (o : Outcome). EffectsOf count names board w o (effectOf (withRun l run) (some frame)))
       (ap₂ (λ (x : Last) (y : link-counts.Counts). closeOf (w .ended) (w .content) x y) last-is₀ counts-are₀
       ∙ r .1 (asLast (l .line .sequence)) (asCounts (l .line .counts))
       ∙ read-by-type (readRun frame) (asLast (l .line .sequence)) (asCounts (l .line .counts)))
       (frame-agrees names fit w (withRun l run) board shows₀ (frameOf frame))
 
 -- a call whose buffers have room
-module _ (names : List (List ℕ)) (fit : Fits names) (l : Ledger) (d : Display) (a : Agrees names l d) (bytes reply packet : List ℕ) where
+module _ {count : ℕ} (names : List (List ℕ)) (fit : Fits names) (l : Ledger) (d : Display) (a : Agrees count names l d) (bytes reply packet : List ℕ) where
   long-agrees : (t : Taken) (w : Walk) → Agreement t w → length (w .content) ≡ contentMax → w .reader .length ≤ contentMax
       → (result : Received) (reply₁ packet₁ : List ℕ) → DisplaysAs (outcomeOf (d .board) (walkCall (d .link) w)) reply packet result reply₁ packet₁
-      → Gives names (pieceStep l t reply packet) (took (result .taken) (result .answer) reply₁ packet₁) (result .display)
+      → Gives count names (pieceStep l t reply packet) (took (result .taken) (result .answer) reply₁ packet₁) (result .display)
   unfolding walkCall
   long-agrees t w both whole within result reply₁ packet₁ does =
       let e = walk-effects names fit l (d .board) (a .shows) (d .link .last) (d .link .counts) (a .last-is) (a .counts-are) (t .run) (t .frame) w (both .reached) in
@@ -89,7 +89,7 @@ module _ (names : List (List ℕ)) (fit : Fits names) (l : Ledger) (d : Display)
       })
 
   short-agrees : (result : Received) (reply₁ packet₁ : List ℕ) → DisplaysAs (outcomeOf (d .board) (shortCall (d .link))) reply packet result reply₁ packet₁
-      → Gives names (shortStep l reply packet) (took (result .taken) (result .answer) reply₁ packet₁) (result .display)
+      → Gives count names (shortStep l reply packet) (took (result .taken) (result .answer) reply₁ packet₁) (result .display)
   short-agrees result reply₁ packet₁ does =
       rw (does .answers, does .replied, does .handed-out)
       (record {
@@ -99,10 +99,10 @@ module _ (names : List (List ℕ)) (fit : Fits names) (l : Ledger) (d : Display)
 
   pub piece-agrees : (result : Received) (reply₁ packet₁ : List ℕ)
       → DisplaysAs (receivePiece d bytes (length reply) (length packet)) reply packet result reply₁ packet₁
-      → Gives names (step l (piece bytes reply packet)) (took (result .taken) (result .answer) reply₁ packet₁) (result .display)
+      → Gives count names (step l (piece bytes reply packet)) (took (result .taken) (result .answer) reply₁ packet₁) (result .display)
   unfolding receivePiece
   piece-agrees result reply₁ packet₁ does =
-      by-room (λ (s : Step). Gives names s (took (result .taken) (result .answer) reply₁ packet₁) (result .display)) l bytes reply packet
+      by-room (λ (s : Step). Gives count names s (took (result .taken) (result .answer) reply₁ packet₁) (result .display)) l bytes reply packet
       (λ short. let is = call-short d bytes reply packet short in short-agrees result reply₁ packet₁ (rw is at does))
       (λ reply-room packet-room.
       let is = room-for-both (d .link) bytes (length reply) (length packet) reply-room packet-room in

@@ -91,7 +91,7 @@ module _ (names : List (List ℕ)) (cs : List Call) (left : List Left) (end : Di
   abbrev effect : Effect
   effect = effectOf (withRun l (t .run)) (t .frame)
 
-  one : Gives names (step l (piece bytes reply packet)) (took count (Refused n) reply₁ packet₁) end₁
+  one : Gives rowCount names (step l (piece bytes reply packet)) (took count (Refused n) reply₁ packet₁) end₁
   one = next-call a next
 
   ledger-is : step l (piece bytes reply packet) .ledger ≡ effect .ledger

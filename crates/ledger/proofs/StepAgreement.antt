@@ -3,7 +3,7 @@ use mathlib.Core.Path.{_≡_, refl, ap, _∙_}
 use mathlib.Core.List.{List, map}
 use Prim.Native.Nat.{ℕ}
 use Rattle.rows.specs.Entries.{boardShowing}
-use Rattle.rows.specs.Rows.{rowCount, tickBoard}
+use Rattle.rows.specs.Rows.{tickBoard}
 use Rattle.rows.proofs.EntryLaws.{tick-showing}
 use Rattle.link.specs.Seen.{Ours}
 use Rattle.display.specs.Display.{tickDisplay}
@@ -17,23 +17,23 @@ use Rattle.ledger.proofs.RunAgreement.{Standing}
 use Rattle.ledger.proofs.RowAgreement.{entries-older, names-older}
 use Rattle.ledger.proofs.FrameOutcomes.{asLast, Shows}
 
--- display and ledger agree
-pub record Agrees (names : List (List ℕ)) (l : Ledger) (d : Display) : Type 0 where
+-- a display with so many rows and the ledger agree
+pub record Agrees (count : ℕ) (names : List (List ℕ)) (l : Ledger) (d : Display) : Type 0 where
   pub ours : Ours (d .link)
   pub standing : Standing (l .line .run) (d .link .content) (d .link .reader)
   pub last-is : d .link .last ≡ asLast (l .line .sequence)
   pub counts-are : d .link .counts ≡ asCounts (l .line .counts)
-  pub shows : Shows names (l .hives .entries) (d .board)
+  pub shows : Shows count names (l .hives .entries) (d .board)
 
 -- what a call gives, with what it leaves behind
-pub record Gives (names : List (List ℕ)) (s : calls.Step) (left : Left) (d : Display) : Type 0 where
+pub record Gives (count : ℕ) (names : List (List ℕ)) (s : calls.Step) (left : Left) (d : Display) : Type 0 where
   pub gives : left ≡ asLeft names (s .given)
-  pub agrees : Agrees names (s .ledger) d
+  pub agrees : Agrees count names (s .ledger) d
 
 -- a tick
-pub tick-agrees : (names : List (List ℕ)) (l : Ledger) (d : Display) → Agrees names l d → Gives names (step l tick) ticked (tickDisplay d)
+pub tick-agrees : {count : ℕ} (names : List (List ℕ)) (l : Ledger) (d : Display) → Agrees count names l d → Gives count names (step l tick) ticked (tickDisplay d)
 unfolding step
-tick-agrees names l d a =
+tick-agrees {count} names l d a =
     record {
       gives = refl;
       agrees =
@@ -44,7 +44,7 @@ tick-agrees names l d a =
             counts-are = a .counts-are;
             shows =
                 record {
-                  showing = ap tickBoard (a .shows .showing) ∙ tick-showing (map asEntry (l .hives .entries)) ∙ ap (boardShowing rowCount) (entries-older (l .hives .entries));
+                  showing = ap tickBoard (a .shows .showing) ∙ tick-showing count (map asEntry (l .hives .entries)) ∙ ap (boardShowing count) (entries-older (l .hives .entries));
                   named = names-older (l .hives .entries) ∙ a .shows .named;
                 };
           };

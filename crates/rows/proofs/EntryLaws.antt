@@ -11,7 +11,7 @@ use lib.ListN.{length, replicate, length-map}
 use Rattle.slices.proofs.Impossible.{impossible}
 use Rattle.slices.specs.Same.{sameBytes}
 use Rattle.rows.specs.Names.{placeFrom, placeOf}
-use Rattle.rows.specs.Rows.{rowCount, rowName, rowNames, tickRow, tickBoard, freshRow, boardOf, changeAt, updateRow, updateBoard}
+use Rattle.rows.specs.Rows.{rowName, rowNames, tickRow, tickBoard, freshRow, boardOf, changeAt, updateRow, updateBoard}
 use Rattle.rows.specs.Entries.{Entry, entryName, rowShowing, boardShowing, freshEntry, tickEntry, updateEntries}
 use Rattle.rows.specs.declared.Board.{Board}
 use Rattle.rows.specs.declared.Row.{Row}
@@ -39,8 +39,8 @@ row-names [] zero h = refl
 row-names [] (suc k) h = ap (λ (l : List (List ℕ)). [] ∷ l) (row-names [] k h)
 row-names (e ∷ es) k h = ap₂ (λ (n : List ℕ) (l : List (List ℕ)). n ∷ l) (first-named e es h) (row-names es k (others-named e es h))
 
-pub showing-names : (es : List Entry) → Named es → rowNames (boardShowing rowCount es) ≡ map entryName es ++ replicate (rowCount - length es) []
-showing-names es h = row-names es (rowCount - length es) h
+pub showing-names : (count : ℕ) (es : List Entry) → Named es → rowNames (boardShowing count es) ≡ map entryName es ++ replicate (count - length es) []
+showing-names count es h = row-names es (count - length es) h
 
 -- a fresh board
 fresh-rows : (names : List (List ℕ)) (k : ℕ) → map freshRow (names ++ replicate k []) ≡ rowsShowing (map freshEntry names) k
@@ -57,8 +57,8 @@ tick-rows [] zero = refl
 tick-rows [] (suc k) = ap (λ (l : List Row). freshRow [] ∷ l) (tick-rows [] k)
 tick-rows (e ∷ es) k = ap (λ (l : List Row). rowShowing (tickEntry e) ∷ l) (tick-rows es k)
 
-pub tick-showing : (es : List Entry) → tickBoard (boardShowing rowCount es) ≡ boardShowing rowCount (map tickEntry es)
-tick-showing es = rw (length-map es tickEntry) (ap boardWith (tick-rows es (rowCount - length es)))
+pub tick-showing : (count : ℕ) (es : List Entry) → tickBoard (boardShowing count es) ≡ boardShowing count (map tickEntry es)
+tick-showing count es = rw (length-map es tickEntry) (ap boardWith (tick-rows es (count - length es)))
 
 -- names are counted upwards
 place-from : (a place : ℕ) (name : List ℕ) (names : List (List ℕ)) → placeFrom a name names ≡ some place → a ≤ place
@@ -113,9 +113,9 @@ module _ (byte : ℕ) (bytes : List ℕ) (value : ℤ) where
       cases true rest = refl
       cases false rest = ap suc rest
 
-pub update-showing : (es : List Entry) (name : List ℕ) (place : ℕ) (value : ℤ) → Named es → 0 < length name
-    → placeOf name (rowNames (boardShowing rowCount es)) ≡ some place → updateBoard place value (boardShowing rowCount es) ≡ boardShowing rowCount (updateEntries name value es)
-update-showing es [] place value h some-bytes e = absurd (omega arith)
-update-showing es (byte ∷ bytes) place value h some-bytes e =
+pub update-showing : (count : ℕ) (es : List Entry) (name : List ℕ) (place : ℕ) (value : ℤ) → Named es → 0 < length name
+    → placeOf name (rowNames (boardShowing count es)) ≡ some place → updateBoard place value (boardShowing count es) ≡ boardShowing count (updateEntries name value es)
+update-showing count es [] place value h some-bytes e = absurd (omega arith)
+update-showing count es (byte ∷ bytes) place value h some-bytes e =
     let from : place ≡ 0 + place = omega arith in
-    rw (update-length byte bytes value es) (ap boardWith (update-rows byte bytes value es (rowCount - length es) 0 place h (rw from at e)))
+    rw (update-length byte bytes value es) (ap boardWith (update-rows byte bytes value es (count - length es) 0 place h (rw from at e)))

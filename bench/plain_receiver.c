@@ -19,6 +19,7 @@
 #define ROWS 40
 #define NAME_MAX_LENGTH 27
 #define LIST_MAX 2048
+#define FIELD_HEAD 3
 #define STREAM_MAX 65536
 #define NUMBER_BYTES 4
 #define UPDATE 0x03
@@ -228,13 +229,13 @@ static void feed(struct receiver *receiver, const uint8_t *stream, size_t length
 static void watch(struct row rows[ROWS], const uint8_t *list, size_t length)
 {
     size_t at = 0;
-    for (size_t i = 0; i < ROWS && length - at > 3; i++) {
+    for (size_t i = 0; i < ROWS && length - at > FIELD_HEAD; i++) {
         size_t size = list[at + 2];
-        if (list[at + 1] != 0 || size > NAME_MAX_LENGTH || length - at - 3 < size)
+        if (list[at + 1] != 0 || size > NAME_MAX_LENGTH || length - at - FIELD_HEAD < size)
             return;
         rows[i].length = size;
-        memcpy(rows[i].name, list + at + 3, size);
-        at += 3 + size;
+        memcpy(rows[i].name, list + at + FIELD_HEAD, size);
+        at += FIELD_HEAD + size;
     }
 }
 

@@ -25,7 +25,8 @@
 #define ALIKE_ROUNDS 3
 #define OUTPUT_MAX 2048
 #define HIVES_MAX 40
-#define FIELD_MAX 8
+#define FIELD_HEAD 3
+#define FIELD_MAX (FIELD_HEAD + 5)
 
 struct program {
     const char *path;
@@ -80,11 +81,11 @@ static void put_list(FILE *file, unsigned hives)
     size_t length = 0;
     require(hives <= HIVES_MAX, "too many hives");
     for (unsigned i = 1; i <= hives; i++) {
-        int size = snprintf(list + length + 3, FIELD_MAX - 3, "h%u", i);
+        int size = snprintf(list + length + FIELD_HEAD, FIELD_MAX - FIELD_HEAD, "h%u", i);
         list[length] = 1;
         list[length + 1] = 0;
         list[length + 2] = (char)size;
-        length += 3 + (size_t)size;
+        length += FIELD_HEAD + (size_t)size;
     }
     put_number(file, length);
     require(fwrite(list, 1, length, file) == length, "no room for the list");
@@ -212,7 +213,7 @@ static struct stream fortieth_updates(void)
 {
     static const uint8_t fortieth[] = {0x01, 0x03, 0x00, 0x00, 0x01, 0x03, 'h', '4',
                                        '0',  0x16, 0x04, 0x00, 0x00, 0x0d, 0x7a};
-    return make_stream("fortieth", 40, fortieth, sizeof fortieth);
+    return make_stream("fortieth", HIVES_MAX, fortieth, sizeof fortieth);
 }
 
 /* With two items behind it that fill the longest payload. */

@@ -3,7 +3,7 @@
 use crate::frame::{enclose, ESCAPE, FLAG};
 use crate::random::Random;
 
-/// More than a display takes, so that those that are not watched are names too.
+/// More than a display takes, so that some good names are never watched.
 const NAMES: [&str; 46] = [
     "h1", "h2", "H1", "h", "h10", "hive_3", "hive-4", "a", "b", "c", "d", "e", "f", "g", "i", "j", "k",
     "l", "abcdefghijklmnopqrstuvwxyz1", "m", "n", "o", "p", "q", "r", "s", "t", "u", "v", "w", "x", "y",

@@ -48,8 +48,9 @@ module _ (fields : List ℕ) where
   old-none : watchNames rowCount fields ≡ none → oldListed fields ≡ refusedWith (boardOf oldRowCount [])
   old-none e = ap (asWatched oldRowCount) (old-at-most ∙ ap (atMost oldRowCount) e)
 
-  old-few : (names : List (List ℕ)) → watchNames rowCount fields ≡ some names → length names ≤ oldRowCount → oldListed fields ≡ acceptedWith (boardOf oldRowCount names)
-  old-few names e few =
+  -- THEOREM. Of the lists that are accepted today an old display accepts those of at most sixteen names, with the board of these.
+  pub old-accepts : (names : List (List ℕ)) → watchNames rowCount fields ≡ some names → length names ≤ oldRowCount → oldListed fields ≡ acceptedWith (boardOf oldRowCount names)
+  old-accepts names e few =
       let listed : watchNames oldRowCount fields ≡ some names = rw (le-leb (length names) oldRowCount few) at (old-at-most ∙ ap (atMost oldRowCount) e) in
       ap (asWatched oldRowCount) listed
 
@@ -68,7 +69,7 @@ module _ (fields : List ℕ) where
 
         cases : (o : Option (List (List ℕ))) → watchNames rowCount fields ≡ o → ReadAsBefore (oldListed fields) today
         cases none e = rw (told none e, old-none e) (refused-alike [] (omega arith))
-        cases (some names) e = rw (told (some names) e, old-few names e (short names e)) (accepted-alike names (short names e))
+        cases (some names) e = rw (told (some names) e, old-accepts names e (short names e)) (accepted-alike names (short names e))
 
     -- the board then watches the names of the list
     watches-names : (names : List (List ℕ)) → watchNames rowCount fields ≡ some names → watched (today .board) ≡ names
@@ -127,7 +128,7 @@ pub seventeenth-refused : (names : List (List ℕ)) (name : List ℕ) → Good o
 seventeenth-refused names name good full = watch-refused names name good (join-full oldRowCount names name (omega arith))
 
 -- What is shown afterwards. The contracts of `display::receive` and `display::tick` do not ask for the number of rows, so a chain of calls
--- speaks of an old display too; it starts with the board of sixteen rows that the list gave.
+-- speaks of an old display too; it starts with the board of sixteen rows that the list gave it (`old-accepts`).
 abbrev pub oldStart : List (List ℕ) → Display
 oldStart names = display.fresh (boardOf oldRowCount names)
 

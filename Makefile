@@ -168,6 +168,7 @@ $(OUT)/session_reference: $(SESSION_TEST) crates/run_cases/stdin crates/run_case
 
 CAPTURE := examples/captures/line
 CASE_6 := examples/histories/case_6
+AT_THE_FLAG := examples/histories/refusal_1_at_the_flag
 
 ## make test             run the host tests, and replay the histories of examples/ (rustc, python3)
 test: $(addprefix $(OUT)/,$(TESTS)) $(OUT)/display $(REPLAY) $(CASES)
@@ -184,7 +185,8 @@ test: $(addprefix $(OUT)/,$(TESTS)) $(OUT)/display $(REPLAY) $(CASES)
 	@$(OUT)/differential
 	@$(OUT)/damage
 	@$(OUT)/history_text_test --quiet
-	@tests/history_text/run.sh $(OUT)/history_text $(CASE_6).history $(CASE_6).txt
+	@tests/history_text/run.sh $(OUT)/history_text $(CASE_6).history $(CASE_6).txt $(OUT)/display \
+		$(AT_THE_FLAG).history "refused 1 at byte 6"
 	@$(OUT)/replay_reference --quiet
 	@$(OUT)/replay_test $(REPLAY) 20000 1
 	@$(OUT)/ash_reference --quiet

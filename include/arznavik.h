@@ -29,7 +29,7 @@ extern "C" {
  * one version compiles and means the same with each later one of the same major number: there the
  * minor number has grown, and names were only added.
  */
-#define ARZNAVIK_VERSION_MAJOR 1
+#define ARZNAVIK_VERSION_MAJOR 2
 #define ARZNAVIK_VERSION_MINOR 0
 
 /* ---- Names and limits ---- */
@@ -81,9 +81,20 @@ enum arznavik_refusals {
  *   bits  8 to 15   type (frame check)
  *   bits 16 to 23   sequence (frame check)
  *   bits 24 to 39   length of the frame (frame writer) or of the payload (frame check)
- *   bits 40 to 63   place of the fault: kept for later, always 0
+ *   bits 40 to 63   place of the refusal (frame check), 0 if nothing was refused
  *
- * With a refusal all other fields are 0, and no byte of the output has changed.
+ * With a refusal type, sequence and length are 0, and no byte of the output has changed. The place
+ * says where a frame broke:
+ *
+ *   ARZNAVIK_BAD_FRAMING    offset of the byte after the escape, 2 to 776, which may be the closing
+ *                           flag; 0 if the flags are wrong
+ *   ARZNAVIK_LONG_CONTENT   offset of the byte that passes the limit, 388 to 776; of an escaped byte
+ *                           that is the second of its pair
+ *   ARZNAVIK_BAD_CHECK      no offset but a length: that of the whole content, check included, 4 to
+ *                           387
+ *   other refusals          0
+ *
+ * Offsets are counted in sent bytes from the opening flag as 0, so the byte is frame[place].
  */
 static inline unsigned arznavik_refusal(uint64_t report)
 {

@@ -6,8 +6,8 @@
 
 /*
  * Sent bytes that are kept of one frame, its flags included. Of a longer run the rest is left out
- * and the frame check still gives the same refusal number: 776 bytes between the flags already hold
- * a bad escape or a 388th content byte.
+ * and the frame check still gives the same refusal and place: 776 bytes between the flags already
+ * hold a bad escape or a 388th content byte.
  */
 #define COLLECTOR_BETWEEN (2 * (ARZNAVIK_CONTENT_MAX + 1))
 #define COLLECTOR_ROOM (COLLECTOR_BETWEEN + 2)

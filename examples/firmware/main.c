@@ -64,12 +64,24 @@ static int end_line(void)
     return 0;
 }
 
+/* Prints a refusal and, for whoever looks for a bad connector, where the frame broke. */
+static void print_refusal(uint64_t report)
+{
+    unsigned refusal = arznavik_refusal(report);
+    unsigned long place = arznavik_place(report);
+    printf("refused %u", refusal);
+    if (refusal == ARZNAVIK_BAD_CHECK)
+        printf(", content of %lu bytes", place);
+    else if (place != 0)
+        printf(" at byte %lu", place);
+}
+
 static int take_frame(const struct line *line, const uint8_t *frame, size_t length)
 {
     uint8_t payload[ARZNAVIK_PAYLOAD_MAX];
     uint64_t report = arznavik_check_frame(frame, length, payload, sizeof payload);
     if (arznavik_refusal(report) != ARZNAVIK_TAKEN)
-        printf("refused %u", arznavik_refusal(report));
+        print_refusal(report);
     else if (take_good(line, report, payload) != 0)
         return -1;
     return end_line();

@@ -1,7 +1,11 @@
-//! Turns a readable text into a history for `replay`, or a history into a text.
+//! Turns a readable text into a history for `replay`, or a history into a text or into the line that it
+//! recorded.
 //!
 //!     history_text write <case.txt >case.history
 //!     history_text read <case.history >case.txt
+//!     history_text line <case.history >case.capture
+//!
+//! The line is the received bytes alone, as the example reads them: it tells where each frame broke.
 //!
 //! A line of the text is `name h1`, `bytes 7e 01 00`, `tick` or `tick 30`. Blank lines and what
 //! stands behind a # are passed over.
@@ -17,8 +21,9 @@ fn main() -> ExitCode {
     let turn: fn(&[u8]) -> Result<Vec<u8>, String> = match words.as_slice() {
         [word] if word == "write" => text::to_history,
         [word] if word == "read" => text::from_history,
+        [word] if word == "line" => text::line_in,
         _ => {
-            eprintln!("usage: history_text write|read <input >output");
+            eprintln!("usage: history_text write|read|line <input >output");
             return ExitCode::from(2);
         }
     };

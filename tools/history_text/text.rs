@@ -1,4 +1,4 @@
-//! The two directions. Only the form of fields is tested here: what a name may be, and that names
+//! The two directions, and the line in a history. Only the form of fields is tested here: what a name may be, and that names
 //! stand first, is for `replay` to judge, so that a broken list can be tried too.
 
 const FIELD_MAX: usize = 4096;
@@ -57,24 +57,53 @@ fn write_field(tag: u8, value: &[u8], history: &mut Vec<u8>) -> Result<(), Strin
     Ok(())
 }
 
+/// A good field.
+enum Field<'a> {
+    Name(&'a str),
+    Received(&'a [u8]),
+    Tick,
+}
+
 pub fn from_history(history: &[u8]) -> Result<Vec<u8>, String> {
     let mut text = String::new();
     let mut ticks = 0;
-    let mut at = 0;
-    while at < history.len() {
-        let start = at;
-        let broken = || format!("the field at byte {start} is broken");
-        let (tag, value) = read_field(&history[start..]).ok_or_else(broken)?;
-        at += 3 + value.len();
-        if tag == TICK && value.is_empty() {
-            ticks += 1;
-            continue;
+    for field in fields(history)? {
+        match field {
+            Field::Tick => ticks += 1,
+            Field::Name(name) => {
+                write_ticks(&mut text, &mut ticks);
+                text.push_str(&format!("name {name}\n"));
+            }
+            Field::Received(bytes) => {
+                write_ticks(&mut text, &mut ticks);
+                let digits: String = bytes.iter().map(|byte| format!(" {byte:02x}")).collect();
+                text.push_str(&format!("bytes{digits}\n"));
+            }
         }
-        write_ticks(&mut text, &mut ticks);
-        text.push_str(&line_of(tag, value).ok_or_else(broken)?);
     }
     write_ticks(&mut text, &mut ticks);
     Ok(text.into_bytes())
+}
+
+/// The bytes of the line, from the first piece to the last.
+pub fn line_in(history: &[u8]) -> Result<Vec<u8>, String> {
+    let pieces = fields(history)?.into_iter().map(|field| match field {
+        Field::Received(bytes) => bytes,
+        Field::Name(_) | Field::Tick => &[],
+    });
+    Ok(pieces.collect::<Vec<_>>().concat())
+}
+
+fn fields(history: &[u8]) -> Result<Vec<Field>, String> {
+    let mut fields = Vec::new();
+    let mut at = 0;
+    while at < history.len() {
+        let broken = || format!("the field at byte {at} is broken");
+        let (tag, value) = read_field(&history[at..]).ok_or_else(broken)?;
+        fields.push(field_of(tag, value).ok_or_else(broken)?);
+        at += 3 + value.len();
+    }
+    Ok(fields)
 }
 
 fn read_field(bytes: &[u8]) -> Option<(u8, &[u8])> {
@@ -83,15 +112,13 @@ fn read_field(bytes: &[u8]) -> Option<(u8, &[u8])> {
     Some((head[0], rest.get(..length)?))
 }
 
-fn line_of(tag: u8, value: &[u8]) -> Option<String> {
+fn field_of(tag: u8, value: &[u8]) -> Option<Field> {
     match tag {
         NAME if !value.is_empty() && value.iter().all(|&byte| is_word_byte(byte)) => {
-            Some(format!("name {}\n", String::from_utf8_lossy(value)))
+            std::str::from_utf8(value).ok().map(Field::Name)
         }
-        RECEIVED if value.len() <= FIELD_MAX => {
-            let digits: String = value.iter().map(|byte| format!(" {byte:02x}")).collect();
-            Some(format!("bytes{digits}\n"))
-        }
+        RECEIVED if value.len() <= FIELD_MAX => Some(Field::Received(value)),
+        TICK if value.is_empty() => Some(Field::Tick),
         _ => None,
     }
 }
@@ -112,7 +139,7 @@ fn write_ticks(text: &mut String, ticks: &mut u32) {
 
 #[cfg(test)]
 mod both_directions {
-    use super::{from_history, to_history};
+    use super::{from_history, line_in, to_history};
 
     #[test]
     fn a_text_gives_its_fields() {
@@ -133,6 +160,13 @@ mod both_directions {
             history.extend(b"\x03\x00\x00");
             assert_eq!(to_history(&from_history(&history).unwrap()).unwrap(), history);
         }
+    }
+
+    #[test]
+    fn the_line_is_the_received_bytes() {
+        let history = b"\x01\x00\x02h1\x02\x00\x02\x7e\x7d\x03\x00\x00\x02\x00\x00\x02\x00\x01\x7e";
+        assert_eq!(line_in(history).unwrap(), b"\x7e\x7d\x7e");
+        assert_eq!(line_in(b"").unwrap(), b"");
     }
 
     #[test]
@@ -162,6 +196,7 @@ mod both_directions {
         ] {
             let fault = format!("the field at byte {at} is broken");
             assert_eq!(from_history(history).unwrap_err(), fault);
+            assert_eq!(line_in(history).unwrap_err(), fault);
         }
     }
 }

@@ -54,7 +54,7 @@ pair-damaged =
     }
 
 pub pair-seen : (readFrame payloadMax (betweenFlags case-1) ≡ frame 0x02 0x01 letters)
-    × (readFrame payloadMax (betweenFlags swapped) ≡ refused 4)
+    × (readFrame payloadMax (betweenFlags swapped) ≡ refused 4 9)
 unfolding frame-steps readFrame flaggedBytes firstFlag
 pair-seen = (refl, refl)
 

@@ -13,7 +13,7 @@ use Rattle.slices.specs.Put.{putAt}
 use Rattle.slices.proofs.PutLaws.{put-first}
 use Rattle.frame.specs.Stuffing.{contentMax}
 use Rattle.frame.specs.Content as content
-use Rattle.frame.specs.Content.{payloadMax, judged}
+use Rattle.frame.specs.Content.{payloadMax, noPlace, judged}
 use Rattle.frame.specs.Answers.{readAnswer}
 use Rattle.frame.proofs.ContentLaws.{answer-frame}
 use Rattle.link.specs.Closing.{replyRoom, dataType, acknowledgementType, repeats, Outcome, acknowledgementFrame, againFrame, newFrame, dataFrame, refusedFrame, readOutcome, frameOutcome, closeOf}
@@ -38,8 +38,8 @@ pub record Handed (packet : List ℕ) (n limit : ℕ) : Type 0 where
 abbrev noPacket : Outcome → Type 0
 noPacket o = (r n : ℕ) → o .answer ≡ says.New r n → ⊥
 
-refused-none : (number : ℕ) (previous : Last) (before : Counts) → noPacket (refusedFrame number previous before)
-refused-none number previous before r n e = impossible cc
+refused-none : (number place : ℕ) (previous : Last) (before : Counts) → noPacket (refusedFrame number place previous before)
+refused-none number place previous before r n e = impossible cc
 
 heard-none : (sequence size : ℕ) (previous : Last) (before : Counts) → noPacket (acknowledgementFrame sequence size previous before)
 heard-none sequence size previous before r n e = cases (eqb size 0) refl e
@@ -66,17 +66,17 @@ module _ (previous : Last) (before : Counts) (r n : ℕ) where
     where
       by-type : (kind sequence : ℕ) (payload : List ℕ) → length payload ≤ payloadMax → (t u : Bool)
           → cond t (dataFrame sequence payload previous before)
-          (cond u (acknowledgementFrame sequence (length payload) previous before) (refusedFrame unknownType previous before)) .answer ≡ says.New r n
+          (cond u (acknowledgementFrame sequence (length payload) previous before) (refusedFrame unknownType noPlace previous before)) .answer ≡ says.New r n
           → Handed
           (cond t (dataFrame sequence payload previous before)
-          (cond u (acknowledgementFrame sequence (length payload) previous before) (refusedFrame unknownType previous before)) .packet) n payloadMax
+          (cond u (acknowledgementFrame sequence (length payload) previous before) (refusedFrame unknownType noPlace previous before)) .packet) n payloadMax
       by-type kind sequence payload short true u e = data-handed sequence payload short e
       by-type kind sequence payload short false true e = absurd (heard-none sequence (length payload) previous before r n e)
-      by-type kind sequence payload short false false e = absurd (refused-none unknownType previous before r n e)
+      by-type kind sequence payload short false false e = absurd (refused-none unknownType noPlace previous before r n e)
 
       by-content : (found : content.Read) → judged c ≡ found → readOutcome found previous before .answer ≡ says.New r n
           → Handed (readOutcome found previous before .packet) n payloadMax
-      by-content (content.refused number) f e = absurd (refused-none number previous before r n e)
+      by-content (content.refused number place) f e = absurd (refused-none number place previous before r n e)
       by-content (content.frame kind sequence payload) f e =
           let whole = answer-frame c kind sequence (length payload) (sym (ap readAnswer f)) in
           by-type kind sequence payload (omega (arith, whole .size)) (eqb kind dataType) (eqb kind acknowledgementType) e
@@ -84,7 +84,7 @@ module _ (previous : Last) (before : Counts) (r n : ℕ) where
   close-handed : (end : Ended) (array : List ℕ) → length array ≡ contentMax → closeOf end array previous before .answer ≡ says.New r n
       → Handed (closeOf end array previous before .packet) n payloadMax
   close-handed ends.Nothing array full e = impossible cc
-  close-handed (ends.Refused number) array full e = absurd (refused-none number previous before r n e)
+  close-handed (ends.Refused number place) array full e = absurd (refused-none number place previous before r n e)
   close-handed (ends.Content k) array full e =
       frame-handed (take k array) (simp length-take (omega arith)) e
 

@@ -17,7 +17,7 @@ use Rattle.display.specs.Taking.{Takes}
 
 pub taken-by-link : (answer : link-answer.Answer) (board : Board) (call : Call) → resultOf answer board call .taken ≡ call .taken
 taken-by-link link-answer.the-variants.Nothing board call = refl
-taken-by-link (link-answer.the-variants.Refused n) board call = refl
+taken-by-link (link-answer.the-variants.Refused n place) board call = refl
 taken-by-link (link-answer.the-variants.Heard sequence) board call = refl
 taken-by-link (link-answer.the-variants.Again reply) board call = refl
 taken-by-link (link-answer.the-variants.New reply packet) board call = refl

@@ -49,7 +49,7 @@ received call = record { link = call .link; taken = call .taken; answer = call .
 -- by the link's answer
 abbrev pub resultOf : link-answer.Answer → Board → Call → Received
 resultOf link-answer.the-variants.Nothing board call = keepBoard (received call) board says.Nothing
-resultOf (link-answer.the-variants.Refused n) board call = keepBoard (received call) board (says.Refused n)
+resultOf (link-answer.the-variants.Refused n place) board call = keepBoard (received call) board (says.Refused n place)
 resultOf (link-answer.the-variants.Heard sequence) board call = keepBoard (received call) board (says.Heard sequence)
 resultOf (link-answer.the-variants.Again reply) board call = keepBoard (received call) board (says.Again reply)
 resultOf (link-answer.the-variants.New reply packet) board call =

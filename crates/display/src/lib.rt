@@ -12,12 +12,15 @@ pub struct Display {
     pub board: Board,
 }
 
-// What a piece brought: no frame; a refusal's number; the sequence of an acknowledgement; the length
+// What a piece brought: no frame; a refusal's number and its place; the sequence of an acknowledgement; the length
 // of the reply to a data frame that came again; or the lengths of a new one's reply and payload, and
 // what the board read in it.
 pub enum Answer {
     Nothing,
-    Refused(u8),
+    Refused {
+        number: u8,
+        place: usize,
+    },
     Heard(u8),
     Again(usize),
     New {
@@ -73,7 +76,9 @@ pub fn receive(display: Display, piece: &[u8], reply: &mut [u8], packet: &mut [u
             hand_up(received, replied, length, reading)
         }
         link::receiver::Answer::Nothing => keep(received, board, Answer::Nothing),
-        link::receiver::Answer::Refused(number) => keep(received, board, Answer::Refused(number)),
+        link::receiver::Answer::Refused { number, place } => {
+            keep(received, board, Answer::Refused { number, place })
+        }
         link::receiver::Answer::Heard(sequence) => keep(received, board, Answer::Heard(sequence)),
         link::receiver::Answer::Again(length) => keep(received, board, Answer::Again(length)),
     }

@@ -27,7 +27,10 @@ pub(crate) fn show_answer(taken: usize, answer: Answer, reply: &[u8], packet: &[
     print::number(b"taken ", taken as u64);
     match answer {
         Answer::Nothing => print::text(b" nothing"),
-        Answer::Refused(number) => print::number(b" refused ", number as u64),
+        Answer::Refused { number, place } => {
+            print::number(b" refused ", number as u64);
+            print::number(b" place ", place as u64);
+        }
         Answer::Heard(sequence) => print::number(b" heard ", sequence as u64),
         Answer::Again(length) => print::bytes(b" again reply ", reply, length),
         Answer::New {

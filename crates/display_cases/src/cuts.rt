@@ -1,5 +1,5 @@
-// A stream, cut in two at every place and into pieces of one byte, gives the same replies, packets,
-// counts and rows as the whole: they are compared by a check over them.
+// A stream, cut in two at every place and into pieces of one byte, gives the same refusals with their
+// places, replies, packets, counts and rows as the whole: they are compared by a check over them.
 use crate::calls::show_display;
 use crate::feeding::Passed;
 use crate::feeding::pass;

@@ -102,5 +102,16 @@ fn marked(check: u16, answer: Answer, reply: &[u8], packet: &[u8]) -> u16 {
     if let Answer::Nothing = answer {
         return check;
     }
-    crc::check(crc::check(check, reply), packet)
+    crc::check(crc::check(refusal_marked(check, answer), reply), packet)
+}
+
+// A refusal counts with its number and its place.
+fn refusal_marked(check: u16, answer: Answer) -> u16 {
+    match answer {
+        Answer::Refused { number, place } => {
+            let told = [number, (place / 0x100 % 0x100) as u8, (place % 0x100) as u8];
+            crc::check(check, &told)
+        }
+        _ => check,
+    }
 }

@@ -27,18 +27,18 @@ meant escaped b v h e = cases (eqb b 0x5e) (eqb b 0x5d) e
     cases false true e = let same : 0x7d ≡ v = cc in omega arith
     cases false false e = impossible cc
 
-taken-bytes : (m : Meaning) (held : ℕ) (rest : State → ℕ → Unstuffed) (c : List ℕ) → ((v : ℕ) → m ≡ stands-for v → v < 0x100)
-    → ((s₁ : State) (held₁ : ℕ) (c₁ : List ℕ) → rest s₁ held₁ ≡ content c₁ → Bytes c₁) → taken m held rest ≡ content c → Bytes c
-taken-bytes escapes-next held rest c small known e = known escaped held c e
-taken-bytes (stands-for v) held rest c small known e =
-    let j = stood-for v held rest c e in
+taken-bytes : (m : Meaning) (held place : ℕ) (rest : State → ℕ → Unstuffed) (c : List ℕ) → ((v : ℕ) → m ≡ stands-for v → v < 0x100)
+    → ((s₁ : State) (held₁ : ℕ) (c₁ : List ℕ) → rest s₁ held₁ ≡ content c₁ → Bytes c₁) → taken m held place rest ≡ content c → Bytes c
+taken-bytes escapes-next held place rest c small known e = known escaped held c e
+taken-bytes (stands-for v) held place rest c small known e =
+    let j = stood-for v held place rest c e in
     subst Bytes (sym (j .whole)) (bytes-joined v (j .rest) (small v refl) (known plain (suc held) (j .rest) (j .is)))
-taken-bytes faulty held rest c small known e = impossible cc
+taken-bytes faulty held place rest c small known e = impossible cc
 
-pub unstuffed-bytes : (s : State) (held : ℕ) (run c : List ℕ) → Bytes run → unstuffFrom s held run ≡ content c → Bytes c
+pub unstuffed-bytes : (s : State) (held place : ℕ) (run c : List ℕ) → Bytes run → unstuffFrom s held place run ≡ content c → Bytes c
 unfolding unstuffFrom
-unstuffed-bytes plain held [] c h e = let none : [] ≡ c = cc in subst Bytes none h
-unstuffed-bytes escaped held [] c h e = impossible cc
-unstuffed-bytes s held (b ∷ bs) c h e =
-    taken-bytes (meaning s b) held (λ s₁ held₁. unstuffFrom s₁ held₁ bs) c (λ v. meant s b v (h 0))
-    (λ s₁ held₁ c₁. unstuffed-bytes s₁ held₁ bs c₁ (λ i. h (suc i))) e
+unstuffed-bytes plain held place [] c h e = let none : [] ≡ c = cc in subst Bytes none h
+unstuffed-bytes escaped held place [] c h e = impossible cc
+unstuffed-bytes s held place (b ∷ bs) c h e =
+    taken-bytes (meaning s b) held (suc place) (λ s₁ held₁. unstuffFrom s₁ held₁ (suc place) bs) c (λ v. meant s b v (h 0))
+    (λ s₁ held₁ c₁. unstuffed-bytes s₁ held₁ (suc place) bs c₁ (λ i. h (suc i))) e

@@ -11,7 +11,7 @@ use borrow.Author.Tests.{eq-eqb, ne-eqb, eqb-true, eqb-false, lt-ltb, le-ltb, lt
 use Rattle.slices.proofs.Impossible.{impossible}
 use Rattle.refusals.specs.Numbers.{shortContent, badCheck}
 use Rattle.crc.specs.Crc.{linkStart, crcOf}
-use Rattle.frame.specs.Content.{Read, frame, refused, payloadOf, judged}
+use Rattle.frame.specs.Content.{Read, frame, refused, noPlace, payloadOf, judged}
 use Rattle.frame.specs.Answers.{readAnswer}
 use Rattle.frame.specs.declared.content.FrameRead.the-variants as answer
 
@@ -19,11 +19,11 @@ pub length-payload : (c : List ℕ) → length (payloadOf c) ≡ length c - 4
 length-payload c = simp (length-take, length-drop) (omega arith)
 
 module _ (c : List ℕ) where
-  pub judged-short : length c < 4 → judged c ≡ refused shortContent
+  pub judged-short : length c < 4 → judged c ≡ refused shortContent noPlace
   unfolding judged
   judged-short h = rw (lt-ltb (length c) 4 h)
 
-  pub judged-bad : 4 ≤ length c → (crcOf linkStart c ≡ 0 → ⊥) → judged c ≡ refused badCheck
+  pub judged-bad : 4 ≤ length c → (crcOf linkStart c ≡ 0 → ⊥) → judged c ≡ refused badCheck (length c)
   unfolding judged
   judged-bad h ne = rw (le-ltb (length c) 4 h, ne-eqb (crcOf linkStart c) 0 ne)
 
@@ -32,9 +32,12 @@ module _ (c : List ℕ) where
   judged-good h e = rw (le-ltb (length c) 4 h, eq-eqb (crcOf linkStart c) 0 e)
 
 -- what an answer says of what was read
-pub answer-refused : (found : Read) (n : ℕ) → answer.Refused n ≡ readAnswer found → found ≡ refused n
-answer-refused (frame k q p) n e = impossible cc
-answer-refused (refused m) n e = let same : m ≡ n = cc in ap refused same
+pub answer-refused : (found : Read) (n place : ℕ) → answer.Refused n place ≡ readAnswer found → found ≡ refused n place
+answer-refused (frame k q p) n place e = impossible cc
+answer-refused (refused m at) n place e =
+    let number : m ≡ n = cc in
+    let there : at ≡ place = cc in
+    ap₂ refused number there
 
 pub record FoundFrame (c : List ℕ) (kind sequence n : ℕ) : Type 0 where
   pub whole : 4 ≤ length c
@@ -47,8 +50,8 @@ answer-frame c k q n e = short (ltb (length c) 4) refl
   where
     good : 4 ≤ length c → (t : Bool) → eqb (crcOf linkStart c) 0 ≡ t → FoundFrame c k q n
     good whole false f =
-        let is : judged c ≡ refused badCheck = judged-bad c whole (eqb-false _ _ f) in
-        let e′ : answer.Frame k q n ≡ readAnswer (refused badCheck) = e ∙ ap readAnswer is in
+        let is : judged c ≡ refused badCheck (length c) = judged-bad c whole (eqb-false _ _ f) in
+        let e′ : answer.Frame k q n ≡ readAnswer (refused badCheck (length c)) = e ∙ ap readAnswer is in
         impossible cc
     good whole true f =
         let is : judged c ≡ frame (getD c 0 0) (getD c 1 0) (payloadOf c) = judged-good c whole (eqb-true _ _ f) in
@@ -60,8 +63,8 @@ answer-frame c k q n e = short (ltb (length c) 4) refl
 
     short : (t : Bool) → ltb (length c) 4 ≡ t → FoundFrame c k q n
     short true f =
-        let is : judged c ≡ refused shortContent = judged-short c (ltb-true _ _ f) in
-        let e′ : answer.Frame k q n ≡ readAnswer (refused shortContent) = e ∙ ap readAnswer is in
+        let is : judged c ≡ refused shortContent noPlace = judged-short c (ltb-true _ _ f) in
+        let e′ : answer.Frame k q n ≡ readAnswer (refused shortContent noPlace) = e ∙ ap readAnswer is in
         impossible cc
     short false f = good (ltb-false _ _ f) (eqb (crcOf linkStart c) 0) refl
 

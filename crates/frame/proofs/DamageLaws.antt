@@ -12,23 +12,25 @@ use Rattle.frame.specs.Stuffing.{plain, content, stuffByte, stuff, unstu
 use Rattle.frame.specs.Damage.{EscapesStay, PairDamaged}
 use Rattle.frame.proofs.BoundLaws.{stood-for}
 use Rattle.frame.proofs.InPlace.{in-place}
+use Rattle.frame.proofs.PlaceLaws.{content-anywhere}
 use Rattle.frame.proofs.StuffTheorems.{stuffed-byte}
 
 -- content behind the stuffed bytes of `before`
 record Behind (before rest : List ℕ) (held : ℕ) (c : List ℕ) : Type 0 where
   left : List ℕ
   whole : c ≡ before ++ left
-  is : unstuffFrom plain (held + length before) rest ≡ content left
+  is : unstuffFrom plain (held + length before) 0 rest ≡ content left
 
-past : (before rest : List ℕ) (held : ℕ) (c : List ℕ) → unstuffFrom plain held (stuff before ++ rest) ≡ content c → Behind before rest held c
+past : (before rest : List ℕ) (held : ℕ) (c : List ℕ) → unstuffFrom plain held 0 (stuff before ++ rest) ≡ content c → Behind before rest held c
 unfolding each
-past [] rest held c e = record { left = c; whole = refl; is = ap (λ (n : ℕ). unstuffFrom plain n rest) (add-zero held) ∙ e }
+past [] rest held c e = record { left = c; whole = refl; is = ap (λ (n : ℕ). unstuffFrom plain n 0 rest) (add-zero held) ∙ e }
 past (b ∷ bs) rest held c e =
-    let first = sym (stuffed-byte held b (stuff bs ++ rest)) ∙ sym (ap (unstuffFrom plain held) (append-assoc (stuffByte b) (stuff bs) rest)) ∙ e in
-    let j = stood-for b held (λ s₁ held₁. unstuffFrom s₁ held₁ (stuff bs ++ rest)) c first in
-    let p = past bs rest (suc held) (j .rest) (j .is) in
+    let first = sym (stuffed-byte held 0 b (stuff bs ++ rest)) ∙ sym (ap (unstuffFrom plain held 0) (append-assoc (stuffByte b) (stuff bs) rest)) ∙ e in
+    let at = 0 + length (stuffByte b) in
+    let j = stood-for b held at (λ s₁ held₁. unstuffFrom s₁ held₁ at (stuff bs ++ rest)) c first in
+    let p = past bs rest (suc held) (j .rest) (content-anywhere plain (suc held) at 0 (stuff bs ++ rest) (j .rest) (j .is)) in
     let more : held + suc (length bs) ≡ suc held + length bs = omega arith in
-    record { left = p .left; whole = j .whole ∙ ap (λ (l : List ℕ). b ∷ l) (p .whole); is = ap (λ (n : ℕ). unstuffFrom plain n rest) more ∙ p .is }
+    record { left = p .left; whole = j .whole ∙ ap (λ (l : List ℕ). b ∷ l) (p .whole); is = ap (λ (n : ℕ). unstuffFrom plain n 0 rest) more ∙ p .is }
 
 -- two neighbouring bytes of content whose sent bytes may be damaged: in their places stand two bytes
 record PairInPlace (first second held : ℕ) (other behind c : List ℕ) : Type 0 where
@@ -36,7 +38,7 @@ record PairInPlace (first second held : ℕ) (other behind c : List ℕ) : Type 
   value₁ : ℕ
   left : List ℕ
   whole : c ≡ value ∷ value₁ ∷ left
-  is : unstuffFrom plain (held + 2) behind ≡ content left
+  is : unstuffFrom plain (held + 2) 0 behind ≡ content left
   same : first ∷ second ∷ [] ≡ value ∷ value₁ ∷ [] → stuff (first ∷ second ∷ []) ≡ other
 
 no-bytes-left : (l : List ℕ) → length {A = ℕ} [] ≡ length l → l ≡ []
@@ -44,7 +46,7 @@ no-bytes-left [] e = refl
 no-bytes-left (x ∷ l) e = absurd (omega arith)
 
 pair-in-place : (first second held : ℕ) (other behind c : List ℕ) → length (stuff (first ∷ second ∷ [])) ≡ length other
-    → EscapesStay (stuff (first ∷ second ∷ [])) other → unstuffFrom plain held (other ++ behind) ≡ content c → PairInPlace first second held other behind c
+    → EscapesStay (stuff (first ∷ second ∷ [])) other → unstuffFrom plain held 0 (other ++ behind) ≡ content c → PairInPlace first second held other behind c
 unfolding each
 pair-in-place first second held other behind c size stay found =
     let p = in-place held (stuff (second ∷ [])) behind c first other size stay found in
@@ -56,7 +58,7 @@ pair-in-place first second held other behind c size stay found =
       value₁ = q .value;
       left = q .content-left;
       whole = p .whole ∙ ap (λ (l : List ℕ). p .value ∷ l) (q .whole);
-      is = ap (λ (n : ℕ). unstuffFrom plain n behind) two ∙ sym (ap (λ (l : List ℕ). unstuffFrom plain (suc (suc held)) (l ++ behind)) none) ∙ q .is;
+      is = ap (λ (n : ℕ). unstuffFrom plain n 0 behind) two ∙ sym (ap (λ (l : List ℕ). unstuffFrom plain (suc (suc held)) 0 (l ++ behind)) none) ∙ q .is;
       same = λ e.
           let same-first : p .value ≡ first = cc in
           let same-second : q .value ≡ second = cc in
@@ -69,9 +71,9 @@ pub contents-differ : (sent arrived c d : List ℕ) → PairDamaged sent arrived
 unfolding unstuff
 contents-differ sent arrived c d damage found found₁ =
     let pair : List ℕ = damage .first ∷ damage .second ∷ [] in
-    let sent-before = past (damage .before) (stuff pair ++ damage .behind) 0 c (sym (ap (unstuffFrom plain 0) (damage .as-sent)) ∙ found) in
+    let sent-before = past (damage .before) (stuff pair ++ damage .behind) 0 c (sym (ap (unstuffFrom plain 0 0) (damage .as-sent)) ∙ found) in
     let sent-pair = past pair (damage .behind) (0 + length (damage .before)) (sent-before .left) (sent-before .is) in
-    let arrived-before = past (damage .before) (damage .other ++ damage .behind) 0 d (sym (ap (unstuffFrom plain 0) (damage .as-arrived)) ∙ found₁) in
+    let arrived-before = past (damage .before) (damage .other ++ damage .behind) 0 d (sym (ap (unstuffFrom plain 0 0) (damage .as-arrived)) ∙ found₁) in
     let arrived-pair =
     pair-in-place (damage .first) (damage .second) (0 + length (damage .before)) (damage .other) (damage .behind) (arrived-before .left)
     (damage .same-length) (damage .escapes-stay) (arrived-before .is) in

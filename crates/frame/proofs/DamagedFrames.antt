@@ -18,7 +18,7 @@ use Rattle.crc.proofs.BurstLaws.{burst-seen, pair-burst}
 use Rattle.slices.proofs.Impossible.{impossible}
 use Rattle.frame.specs.Stuffing as stuffing
 use Rattle.frame.specs.Stuffing.{plain, stuff, unstuffFrom, unstuff}
-use Rattle.frame.specs.Content.{payloadMax, Read, frame, refused, payloadOf, judged}
+use Rattle.frame.specs.Content.{payloadMax, Read, frame, refused, noPlace, payloadOf, judged}
 use Rattle.frame.specs.Reading.{judgedContent, flaggedBytes, between, readRun, readFrame}
 use Rattle.frame.specs.Writing.{betweenFlags}
 use Rattle.frame.specs.Answers.{readAnswer}
@@ -41,13 +41,13 @@ unfolding readRun judged
 passed run t = cases (unstuff run) refl t
   where
     judged-taken : (c : List ℕ) (short good : Bool) → eqb (crcOf linkStart c) 0 ≡ good
-        → IsTaken (cond short (refused shortContent) (cond good (frame (getD c 0 0) (getD c 1 0) (payloadOf c)) (refused badCheck))) → crcOf linkStart c ≡ 0
+        → IsTaken (cond short (refused shortContent noPlace) (cond good (frame (getD c 0 0) (getD c 1 0) (payloadOf c)) (refused badCheck (length c)))) → crcOf linkStart c ≡ 0
     judged-taken c true good e t = absurd t
     judged-taken c false true e t = eqb-true (crcOf linkStart c) 0 e
     judged-taken c false false e t = absurd t
 
     cases : (found : stuffing.Unstuffed) → unstuff run ≡ found → IsTaken (judgedContent found) → Passed run
-    cases (stuffing.refused n) e t = absurd t
+    cases (stuffing.refused n place) e t = absurd t
     cases (stuffing.content c) e t = record { c = c; unstuffed = e; passes = judged-taken c (ltb (length c) 4) (eqb (crcOf linkStart c) 0) refl t }
 
 burst-run : (sent arrived : List ℕ) → BurstDamaged sent arrived → IsTaken (readRun sent) → IsTaken (readRun arrived) → ⊥
@@ -71,8 +71,8 @@ as-burst sent arrived damage p q =
       as-sent = p .unstuffed;
       as-arrived = q .unstuffed;
       burst =
-          pair-burst (p .c) (q .c) (unstuffed-bytes plain 0 sent (p .c) (damage .bytes) (p .unstuffed))
-          (unstuffed-bytes plain 0 arrived (q .c) (damage .other-bytes) (q .unstuffed))
+          pair-burst (p .c) (q .c) (unstuffed-bytes plain 0 0 sent (p .c) (damage .bytes) (p .unstuffed))
+          (unstuffed-bytes plain 0 0 arrived (q .c) (damage .other-bytes) (q .unstuffed))
           (contents-differ sent arrived (p .c) (q .c) damage (p .unstuffed) (q .unstuffed));
     }
 
@@ -108,7 +108,7 @@ taken-run : (room : ℕ) (run : List ℕ) → IsTaken (readFrame room (betweenFl
 unfolding readFrame
 taken-run room run t = cases (ltb room payloadMax) (flaggedBytes (betweenFlags run)) t
   where
-    cases : (short good : Bool) → IsTaken (cond short (refused shortOutput) (cond good (readRun (between (betweenFlags run))) (refused badFraming)))
+    cases : (short good : Bool) → IsTaken (cond short (refused shortOutput noPlace) (cond good (readRun (between (betweenFlags run))) (refused badFraming noPlace)))
         → IsTaken (readRun run)
     cases true good t = absurd t
     cases false true t = subst (λ (l : List ℕ). IsTaken (readRun l)) (between-flags run) t
@@ -126,7 +126,7 @@ told string before kind sequence n after r = cases (readFrame (length before) st
   where
     cases : (found : Read) → read.Frame kind sequence n ≡ readAnswer found → IsTaken found
     cases (frame k q p) e = tt
-    cases (refused m) e = impossible cc
+    cases (refused m place) e = impossible cc
 
 -- THEOREM (02, C-19). Of two frames that differ, and only within the sent bytes of two neighbouring content bytes with every 7d in its place, not
 -- both are taken by calls of `read_frame`; nor of two whose contents differ, and only within 16 adjacent bits.

@@ -12,7 +12,7 @@ use borrow.Author.Tests.{eqb-true, eqb-false, eq-eqb, ne-eqb}
 use Rattle.slices.proofs.Impossible.{impossible}
 use Rattle.refusals.specs.Numbers.{badFraming}
 use Rattle.frame.specs.Stuffing.{flagByte}
-use Rattle.frame.specs.Content.{payloadMax}
+use Rattle.frame.specs.Content.{payloadMax, noPlace}
 use Rattle.frame.specs.Reading.{firstFlag, flaggedBytes}
 use Rattle.frame.specs.Answers.{readAnswer}
 use Rattle.frame.specs.declared.content.FrameRead.{FrameRead}
@@ -93,11 +93,12 @@ flags-flagged (b ∷ (c ∷ bs)) f =
 pub flagged-exactly : (s : List ℕ) → (flaggedBytes s ≡ true) ↔ Flags s
 flagged-exactly s = (flagged-flags s, flags-flagged s)
 
--- THEOREM. A call of `read_frame` with an output of at least 383 bytes refuses bytes without such flags with 1.
+-- THEOREM. A call of `read_frame` with an output of at least 383 bytes refuses bytes without such flags with 1,
+-- and the place is 0.
 pub unflagged-refused : (bytes out : List ℕ) (answer : FrameRead) (after : List ℕ) → Reads bytes out answer after → payloadMax ≤ length out
-    → (Flags bytes → ⊥) → answer ≡ read.Refused badFraming
+    → (Flags bytes → ⊥) → answer ≡ read.Refused badFraming noPlace
 unflagged-refused bytes out answer after r asked wrong = cases (flaggedBytes bytes) refl
   where
-    cases : (t : Bool) → flaggedBytes bytes ≡ t → answer ≡ read.Refused badFraming
+    cases : (t : Bool) → flaggedBytes bytes ≡ t → answer ≡ read.Refused badFraming noPlace
     cases true e = absurd (wrong (flagged-flags bytes e))
     cases false e = was-read r .answers ∙ ap readAnswer (frame-unflagged (length out) bytes asked e)

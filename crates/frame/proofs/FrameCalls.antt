@@ -70,11 +70,11 @@ module _ (kind sequence : ℕ) (payload before after : List ℕ) where
   pub refused-write-keeps : (m : ℕ) → Writes kind sequence payload before (answered.Refused m) after → after ≡ before
   refused-write-keeps m w = refusal-keeps (writeFrame (length before) kind sequence payload) before m after (was-written w)
 
-pub refused-read-keeps : (bytes before : List ℕ) (m : ℕ) (after : List ℕ) → Reads bytes before (read.Refused m) after → after ≡ before
-refused-read-keeps bytes before m after r = cases (readFrame (length before) bytes) (was-read r)
+pub refused-read-keeps : (bytes before : List ℕ) (m place : ℕ) (after : List ℕ) → Reads bytes before (read.Refused m place) after → after ≡ before
+refused-read-keeps bytes before m place after r = cases (readFrame (length before) bytes) (was-read r)
   where
-    cases : (found : Read) → ReadsAs found before (read.Refused m) after → after ≡ before
-    cases (content.refused k) did = did .output
+    cases : (found : Read) → ReadsAs found before (read.Refused m place) after → after ≡ before
+    cases (content.refused k at) did = did .output
     cases (frame kind sequence payload) did = let a = did .answers in impossible cc
 
 -- 01, Frames: the written length is 6 plus the payload length plus the number of 7d and 7e bytes in content

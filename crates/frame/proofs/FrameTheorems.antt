@@ -19,7 +19,7 @@ use Rattle.slices.proofs.WrittenLaws.{Wrote, wrote}
 use Rattle.frame.specs.Stuffing as stuffing
 use Rattle.frame.specs.Stuffing.{flagByte, contentMax, stuff, escapes, unstuff}
 use Rattle.frame.specs.Content as content
-use Rattle.frame.specs.Content.{payloadMax, contentOf, frame, judged}
+use Rattle.frame.specs.Content.{payloadMax, noPlace, contentOf, frame, judged}
 use Rattle.frame.specs.Writing.{betweenFlags, framed, frameOf, writeContent, writeFrame}
 use Rattle.frame.specs.Reading.{firstFlag, flaggedBytes, between, judgedContent, readRun, readFrame}
 use Rattle.frame.specs.Answers.{readAnswer}
@@ -105,17 +105,17 @@ unfolding readRun unstuff
 run-bounded run kind sequence payload e = cases (unstuff run) refl e
   where
     cases : (found : stuffing.Unstuffed) → unstuff run ≡ found → judgedContent found ≡ frame kind sequence payload → length payload ≤ payloadMax
-    cases (stuffing.refused n) f e = impossible cc
+    cases (stuffing.refused n place) f e = impossible cc
     cases (stuffing.content c) f e =
         let whole = answer-frame c kind sequence (length payload) (sym (ap readAnswer e)) in
-        omega (arith, whole .size, unstuff-bounded stuffing.plain 0 run c (omega arith) f)
+        omega (arith, whole .size, unstuff-bounded stuffing.plain 0 0 run c (omega arith) f)
 
 pub read-bounded : (room : ℕ) (bytes : List ℕ) (kind sequence : ℕ) (payload : List ℕ) → readFrame room bytes ≡ frame kind sequence payload
     → length payload ≤ payloadMax
 unfolding readFrame
 read-bounded room bytes kind sequence payload e = cases (ltb room payloadMax) (flaggedBytes bytes) e
   where
-    cases : (t u : Bool) → cond t (content.refused shortOutput) (cond u (readRun (between bytes)) (content.refused badFraming)) ≡ frame kind sequence payload
+    cases : (t u : Bool) → cond t (content.refused shortOutput noPlace) (cond u (readRun (between bytes)) (content.refused badFraming noPlace)) ≡ frame kind sequence payload
         → length payload ≤ payloadMax
     cases true u e = impossible cc
     cases false true e = run-bounded (between bytes) kind sequence payload e

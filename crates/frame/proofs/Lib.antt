@@ -1,6 +1,7 @@
 pub mod StuffLaws
 pub mod UnstuffLaws
 pub mod BoundLaws
+pub mod PlaceLaws
 pub mod ByteLaws
 pub mod RefusalLaws
 pub mod SentLaws
@@ -15,3 +16,7 @@ pub mod DamageLaws
 pub mod DamagedFrames
 pub mod FrameCalls
 pub mod FlagLaws
+pub mod FollowLaws
+pub mod BrokenLaws
+pub mod FaultPlaces
+pub mod RunPlaces

@@ -14,7 +14,7 @@ use Rattle.slices.proofs.Impossible.{impossible}
 use Rattle.refusals.specs.Numbers.{badFraming, shortOutput}
 use Rattle.frame.specs.Stuffing as stuffing
 use Rattle.frame.specs.Stuffing.{flagByte, unstuff}
-use Rattle.frame.specs.Content.{payloadMax, Read, refused, judged}
+use Rattle.frame.specs.Content.{payloadMax, Read, refused, noPlace, judged}
 use Rattle.frame.specs.Reading.{readRun, firstFlag, flaggedBytes, between, readFrame}
 use Rattle.frame.specs.Answers.{ReadsAs}
 use Rattle.frame.specs.declared.content.FrameRead.the-variants as answer
@@ -70,11 +70,11 @@ flagged-two bytes e = cases (ltb (length bytes) 2) refl
 
 -- the reader of one whole frame, one law for each test
 module _ (room : ℕ) (bytes : List ℕ) where
-  pub frame-no-room : room < payloadMax → readFrame room bytes ≡ refused shortOutput
+  pub frame-no-room : room < payloadMax → readFrame room bytes ≡ refused shortOutput noPlace
   unfolding readFrame
   frame-no-room h = rw (lt-ltb room payloadMax h)
 
-  pub frame-unflagged : payloadMax ≤ room → flaggedBytes bytes ≡ false → readFrame room bytes ≡ refused badFraming
+  pub frame-unflagged : payloadMax ≤ room → flaggedBytes bytes ≡ false → readFrame room bytes ≡ refused badFraming noPlace
   unfolding readFrame
   frame-unflagged h e = rw (le-ltb room payloadMax h, e)
 
@@ -83,9 +83,9 @@ module _ (room : ℕ) (bytes : List ℕ) where
   frame-run h e = rw (le-ltb room payloadMax h, e)
 
 -- and by what unstuffing gives
-pub run-refused : (run : List ℕ) (n : ℕ) → unstuff run ≡ stuffing.refused n → readRun run ≡ refused n
+pub run-refused : (run : List ℕ) (n place : ℕ) → unstuff run ≡ stuffing.refused n place → readRun run ≡ refused n place
 unfolding readRun
-run-refused run n e = rw e
+run-refused run n place e = rw e
 
 pub run-content : (run c : List ℕ) → unstuff run ≡ stuffing.content c → readRun run ≡ judged c
 unfolding readRun
@@ -96,5 +96,5 @@ pub between-part : (bytes : List ℕ) → take (length bytes - 1 - 1) (drop 1 by
 between-part bytes = let same : length bytes - 1 - 1 ≡ length bytes - 2 = omega arith in rw same
 
 -- a refusal is answered and leaves the output as it was
-pub refuses : (found : Read) (n : ℕ) (out : List ℕ) → found ≡ refused n → ReadsAs found out (answer.Refused n) out
-refuses found n out e = rw e (record { answers = refl; output = refl })
+pub refuses : (found : Read) (n place : ℕ) (out : List ℕ) → found ≡ refused n place → ReadsAs found out (answer.Refused n place) out
+refuses found n place out e = rw e (record { answers = refl; output = refl })

@@ -41,30 +41,30 @@ left sent count at fits h =
     rw (add-one, drop-cons (take count sent) at 0 inside, getD-take count sent at 0 h)
 
 module _ (s : State) (held : ℕ) (sent : List ℕ) (count at : ℕ) where
-  pub unstuff-end : count ≤ at → unstuffFrom s held (drop at (take count sent)) ≡ closed s
+  pub unstuff-end : count ≤ at → unstuffFrom s held at (drop at (take count sent)) ≡ closed s (at + 1)
   unfolding unstuffFrom
   unstuff-end h =
       let all : length (take count sent) ≤ at = simp length-take (omega arith) in
-      rw (drop-of-length-le (take count sent) all)
+      rw (add-one, drop-of-length-le (take count sent) all)
 
   module _ (fits : count ≤ length sent) (h : at < count) where
     pub unstuff-escape : meaning s (getD sent at 0) ≡ escapes-next
-        → unstuffFrom s held (drop at (take count sent)) ≡ unstuffFrom escaped held (drop (at + 1) (take count sent))
+        → unstuffFrom s held at (drop at (take count sent)) ≡ unstuffFrom escaped held (at + 1) (drop (at + 1) (take count sent))
     unfolding unstuffFrom
-    unstuff-escape e = rw (left sent count at fits h, e)
+    unstuff-escape e = rw (left sent count at fits h, e, add-one)
 
-    pub unstuff-fault : meaning s (getD sent at 0) ≡ faulty → unstuffFrom s held (drop at (take count sent)) ≡ refused badFraming
+    pub unstuff-fault : meaning s (getD sent at 0) ≡ faulty → unstuffFrom s held at (drop at (take count sent)) ≡ refused badFraming (at + 1)
     unfolding unstuffFrom
-    unstuff-fault e = rw (left sent count at fits h, e)
+    unstuff-fault e = rw (left sent count at fits h, e, add-one)
 
     pub unstuff-byte : (v : ℕ) → meaning s (getD sent at 0) ≡ stands-for v → held < contentMax
-        → unstuffFrom s held (drop at (take count sent)) ≡ joined v (unstuffFrom plain (held + 1) (drop (at + 1) (take count sent)))
+        → unstuffFrom s held at (drop at (take count sent)) ≡ joined v (unstuffFrom plain (held + 1) (at + 1) (drop (at + 1) (take count sent)))
     unfolding unstuffFrom
     unstuff-byte v e room =
         let more : suc held ≡ held + 1 = omega arith in
-        rw (left sent count at fits h, e, lt-ltb held contentMax room, more)
+        rw (left sent count at fits h, e, lt-ltb held contentMax room, more, add-one)
 
     pub unstuff-full : (v : ℕ) → meaning s (getD sent at 0) ≡ stands-for v → contentMax ≤ held
-        → unstuffFrom s held (drop at (take count sent)) ≡ refused longContent
+        → unstuffFrom s held at (drop at (take count sent)) ≡ refused longContent (at + 1)
     unfolding unstuffFrom
-    unstuff-full v e full = rw (left sent count at fits h, e, le-ltb held contentMax full)
+    unstuff-full v e full = rw (left sent count at fits h, e, le-ltb held contentMax full, add-one)

@@ -46,4 +46,4 @@ Damaged sent arrived = PairDamaged sent arrived ⊎ BurstDamaged sent arrived
 -- a frame was read, whichever it is
 abbrev pub IsTaken : Read → Type 0
 IsTaken (frame kind sequence payload) = Unit {0}
-IsTaken (refused number) = ⊥
+IsTaken (refused number place) = ⊥

@@ -5,3 +5,4 @@ pub mod Reading
 pub mod Answers
 pub mod ReaderSteps
 pub mod Damage
+pub mod Places

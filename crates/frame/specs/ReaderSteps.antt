@@ -1,21 +1,20 @@
 -- Steps of the whole-frame reader: what its plain and its escaped reader answer as a number, and what is made of that.
-use Prim.Native.Nat.{ℕ, _+_}
+use Prim.Native.Nat.{ℕ, _+_, _*_}
 use mathlib.Core.Path.{_≡_}
 use mathlib.Core.List.{List}
 use lib.ListN.{length}
 use Rattle.slices.specs.Put.{putAt}
 use Rattle.frame.specs.Stuffing as stuffing
-use Rattle.frame.specs.Stuffing.{contentMax}
 use Rattle.frame.specs.declared.unstuffing.Unstuffed as declared
 
--- so many sent bytes settle the verdict: a byte of content takes at most two, and the 388th is refused
-abbrev pub sentMax : ℕ
-sentMax = 776
+-- a refusal's number is worth so much in the readers' answer: more than any place and any length of content
+abbrev pub numberWorth : ℕ
+numberWorth = 1024
 
--- how much content there is with the bytes held before, or a refusal, as its number above any length of content
+-- how much content there is with the bytes held before, or a refusal's number and place
 abbrev pub readersAnswer : ℕ → stuffing.Unstuffed → ℕ
 readersAnswer held (stuffing.content c) = held + length c
-readersAnswer held (stuffing.refused n) = contentMax + n
+readersAnswer held (stuffing.refused n place) = n * numberWorth + place
 
 -- What was unstuffed behind `held` bytes of content is answered, and stands in the array where it is no refusal. What a refused
 -- frame leaves in that array of the reader's own is open.
@@ -26,7 +25,7 @@ pub record ReadersAs (found : stuffing.Unstuffed) (held : ℕ) (array : List ℕ
 -- the same for a whole run, as an enum
 abbrev pub unstuffAnswer : stuffing.Unstuffed → declared.Unstuffed
 unstuffAnswer (stuffing.content c) = declared.the-variants.Content (length c)
-unstuffAnswer (stuffing.refused n) = declared.the-variants.Refused n
+unstuffAnswer (stuffing.refused n place) = declared.the-variants.Refused n place
 
 pub record UnstuffsAs (found : stuffing.Unstuffed) (array : List ℕ) (answer : declared.Unstuffed) (exit : List ℕ) : Type 0 where
   pub answers : answer ≡ unstuffAnswer found

@@ -5,13 +5,13 @@ use mathlib.Core.List.{List, [], _∷_}
 use lib.Dec.{eqb, ltb}
 use lib.ListN.{length, take, drop}
 use Rattle.refusals.specs.Numbers.{badFraming, shortOutput}
-use Rattle.frame.specs.Content.{payloadMax, Read, refused, judged}
+use Rattle.frame.specs.Content.{payloadMax, Read, refused, noPlace, judged}
 use Rattle.frame.specs.Stuffing as stuffing
 use Rattle.frame.specs.Stuffing.{flagByte, Unstuffed, unstuff}
 
 abbrev pub judgedContent : Unstuffed → Read
 judgedContent (stuffing.content c) = judged c
-judgedContent (stuffing.refused n) = refused n
+judgedContent (stuffing.refused n place) = refused n place
 
 -- the sent bytes between two flags are unstuffed from the left (1, 2), then judged (3, 4)
 unfoldable pub readRun : List ℕ → Read
@@ -31,8 +31,8 @@ flaggedBytes (b ∷ bs) = cond (eqb b flagByte) (eqb (suc (firstFlag bs)) (lengt
 abbrev pub between : List ℕ → List ℕ
 between bytes = take (length bytes - 2) (drop 1 bytes)
 
--- first an output of 383 bytes (else 7), then the two flags (else 1), before all other tests
+-- first an output of 383 bytes (else 7), then the two flags (else 1), before all other tests. 02, C-16: wrong flags have place 0.
 unfoldable pub readFrame : ℕ → List ℕ → Read
 readFrame room bytes =
-    cond (ltb room payloadMax) (refused shortOutput)
-    (cond (flaggedBytes bytes) (readRun (between bytes)) (refused badFraming))
+    cond (ltb room payloadMax) (refused shortOutput noPlace)
+    (cond (flaggedBytes bytes) (readRun (between bytes)) (refused badFraming noPlace))

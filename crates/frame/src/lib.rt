@@ -23,5 +23,9 @@ pub const HEADER_SIZE: usize = 2;
 pub const CONTENT_MIN: usize = 4;
 // The most: a payload of 383 bytes with them.
 pub const CONTENT_MAX: usize = 387;
+// So many sent bytes hold a fault or a byte too many, if they do not end before.
+pub const SENT_MAX: usize = 2 * (CONTENT_MAX + 1);
+// The place of a refusal that has none.
+pub const NO_PLACE: usize = 0;
 // The start value of this link's check.
 pub const CHECK_START: u16 = 0xffff;

@@ -2,6 +2,7 @@
 use crate::CONTENT_MAX;
 use crate::FLAG;
 use crate::HEADER_SIZE;
+use crate::NO_PLACE;
 use crate::PAYLOAD_MAX;
 use crate::content::FrameRead;
 use crate::content::judge;
@@ -22,10 +23,16 @@ pub fn read_frame(bytes: &[u8], out: &mut [u8]) -> FrameRead
     ensures { λ r. ⌜ ReadsAs (readFrame (length (now (out .entry))) (now (bytes .entry))) (now (out .entry)) r (now (out .exit)) ⌝ }
 {
     if out.len() < PAYLOAD_MAX {
-        return FrameRead::Refused(SHORT_OUTPUT);
+        return FrameRead::Refused {
+            number: SHORT_OUTPUT,
+            place: NO_PLACE,
+        };
     }
     if !flagged(bytes) {
-        return FrameRead::Refused(BAD_FRAMING);
+        return FrameRead::Refused {
+            number: BAD_FRAMING,
+            place: NO_PLACE,
+        };
     }
     let last = bytes.len() - 1;
     read_run(&bytes[1..last], out)
@@ -37,7 +44,7 @@ fn read_run(run: &[u8], out: &mut [u8]) -> FrameRead
 {
     let mut content = [0u8; CONTENT_MAX];
     match unstuff(run, &mut content) {
-        Unstuffed::Refused(number) => FrameRead::Refused(number),
+        Unstuffed::Refused { number, place } => FrameRead::Refused { number, place },
         Unstuffed::Content(length) => hand_out(&content[..length], out),
     }
 }
@@ -48,7 +55,7 @@ fn hand_out(content: &[u8], out: &mut [u8]) -> FrameRead
 {
     let read = judge(content);
     match read {
-        FrameRead::Refused(_) => read,
+        FrameRead::Refused { .. } => read,
         FrameRead::Frame {
             kind: _,
             sequence: _,

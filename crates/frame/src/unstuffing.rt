@@ -6,25 +6,27 @@ use crate::ESCAPE;
 use crate::ESCAPED_DIFFERENCE;
 use crate::ESCAPED_ESCAPE;
 use crate::ESCAPED_FLAG;
+use crate::SENT_MAX;
 use refusals::BAD_FRAMING;
 use refusals::LONG_CONTENT;
 ghost use mathlib.Core.Path.{_≡_};
 ghost use Prim.Native.Nat.{_≤_, min};
 ghost use lib.ListN.{length, take, drop};
-ghost use Rattle.frame.specs.Stuffing.{plain, escaped, unstuffFrom, unstuff};
-ghost use Rattle.frame.specs.ReaderSteps.{sentMax, ReadersAs, UnstuffsAs};
+ghost use Rattle.frame.specs.Stuffing.{sentMax, plain, escaped, unstuffFrom, unstuff};
+ghost use Rattle.frame.specs.ReaderSteps.{ReadersAs, UnstuffsAs};
 
-// So many sent bytes hold a fault or a byte too many, if they do not end before.
-const SENT_MAX: usize = 2 * (CONTENT_MAX + 1);
-// The readers answer a refusal as its number above any length of content.
-const FRAMING_FAULT: usize = CONTENT_MAX + BAD_FRAMING as usize;
+// The readers answer a length of content, or a refusal: its number, each worth so much, and its place.
+const NUMBER_WORTH: usize = 1024;
 
-const LENGTH_FAULT: usize = CONTENT_MAX + LONG_CONTENT as usize;
+const FRAMING_FAULT: usize = BAD_FRAMING as usize * NUMBER_WORTH;
 
-// What sent bytes turned out to be: so many bytes of content, or the refusal's number.
+const LENGTH_FAULT: usize = LONG_CONTENT as usize * NUMBER_WORTH;
+
+// What sent bytes turned out to be: so many bytes of content, or a refusal's number and its place,
+// counted in sent bytes from the opening flag as 0.
 pub enum Unstuffed {
     Content(usize),
-    Refused(u8),
+    Refused { number: u8, place: usize },
 }
 
 // Unstuffs the sent bytes between two flags to the start of `content`. What a refusal leaves there is
@@ -36,11 +38,12 @@ pub(crate) fn unstuff(run: &[u8], content: &mut [u8; CONTENT_MAX]) -> Unstuffed
     slices::put(&mut sent, 0, run);
     let count = sent_count(run.len());
     let answer = read_plain(&sent, count, 0, content, 0);
-    if answer <= CONTENT_MAX {
+    if answer < NUMBER_WORTH {
         return Unstuffed::Content(answer);
     }
-    let number = (answer - CONTENT_MAX) as u8;
-    Unstuffed::Refused(number)
+    let number = (answer / NUMBER_WORTH) as u8;
+    let place = answer % NUMBER_WORTH;
+    Unstuffed::Refused { number, place }
 }
 
 // How many of `n` sent bytes have to be looked at.
@@ -50,7 +53,8 @@ fn sent_count(n: usize) -> usize
     if n < SENT_MAX { n } else { SENT_MAX }
 }
 
-// Unstuffs the first `count` bytes sent from the place `at` on, behind `held` bytes of content.
+// Unstuffs the first `count` bytes sent from index `at` on, behind `held` bytes of content. The byte at
+// an index has the place behind it, since the opening flag has place 0.
 fn read_plain(
     sent: &[u8; SENT_MAX],
     count: usize,
@@ -58,8 +62,8 @@ fn read_plain(
     content: &mut [u8; CONTENT_MAX],
     held: usize,
 ) -> usize
-    requires { ⌜ (count ≤ sentMax) × (count ≤ length (now sent)) ⌝ }
-    ensures { λ r. ⌜ ReadersAs (unstuffFrom plain held (drop at (take count (now (sent .entry))))) held (now (content .entry)) r (now (content .exit)) ⌝ }
+    requires { ⌜ (at ≤ count) × ((count ≤ sentMax) × (count ≤ length (now sent))) ⌝ }
+    ensures { λ r. ⌜ ReadersAs (unstuffFrom plain held at (drop at (take count (now (sent .entry))))) held (now (content .entry)) r (now (content .exit)) ⌝ }
 {
     if count <= at {
         return held;
@@ -73,7 +77,7 @@ fn read_plain(
         content[held] = byte;
         return read_plain(sent, count, next, content, held + 1);
     }
-    LENGTH_FAULT
+    LENGTH_FAULT + next
 }
 
 // The same right behind an escape byte, for exactly one byte.
@@ -84,22 +88,22 @@ fn read_escaped(
     content: &mut [u8; CONTENT_MAX],
     held: usize,
 ) -> usize
-    requires { ⌜ (count ≤ sentMax) × (count ≤ length (now sent)) ⌝ }
-    ensures { λ r. ⌜ ReadersAs (unstuffFrom escaped held (drop at (take count (now (sent .entry))))) held (now (content .entry)) r (now (content .exit)) ⌝ }
+    requires { ⌜ (at ≤ count) × ((count ≤ sentMax) × (count ≤ length (now sent))) ⌝ }
+    ensures { λ r. ⌜ ReadersAs (unstuffFrom escaped held at (drop at (take count (now (sent .entry))))) held (now (content .entry)) r (now (content .exit)) ⌝ }
 {
+    let next = at + 1;
     if count <= at {
-        return FRAMING_FAULT;
+        return FRAMING_FAULT + next;
     }
     let byte = sent[at];
-    let next = at + 1;
     match byte {
         ESCAPED_FLAG | ESCAPED_ESCAPE => {
             if held < CONTENT_MAX {
                 content[held] = byte + ESCAPED_DIFFERENCE;
                 return read_plain(sent, count, next, content, held + 1);
             }
-            LENGTH_FAULT
+            LENGTH_FAULT + next
         }
-        _ => FRAMING_FAULT,
+        _ => FRAMING_FAULT + next,
     }
 }

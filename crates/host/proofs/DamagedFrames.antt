@@ -20,7 +20,7 @@ reported string before report after r none = cases (readFrame (length before) st
   where
     cases : (found : Read) → readFrame (length before) string ≡ found → report ≡ readReport found → IsTaken found
     cases (frame kind sequence payload) f e = tt
-    cases (refused n) f e = let known = reader-number n (length before) string f in absurd (omega (arith, known .0, known .1))
+    cases (refused n place) f e = let known = reader-number n place (length before) string f in absurd (omega (arith, known .0, known .1))
 
 -- THEOREM (02, C-19). Of two frames that differ, and only within the sent bytes of two neighbouring content bytes with every 7d in its place, not
 -- both are reported without a refusal; nor of two whose contents differ only within 16 adjacent bits.

@@ -19,7 +19,7 @@ use Rattle.crc.specs.Burst.{Burst}
 use Rattle.crc.specs.Crc.{crcOf, checkBytes}
 use Rattle.crc.proofs.CrcLaws.{crc-checked}
 use Rattle.crc.proofs.CheckCalls as check
-use Rattle.frame.specs.Content.{payloadMax, frame}
+use Rattle.frame.specs.Content.{noPlace, payloadMax, frame}
 use Rattle.frame.specs.Writing.{frameOf, writeContent, writeFrame}
 use Rattle.frame.specs.Reading.{readFrame}
 use Rattle.frame.specs.Answers.{readPayload}
@@ -106,7 +106,7 @@ module _ (kind sequence : ℕ) (payload before : List ℕ) (report : ℕ) (after
           let bytes = frameOf kind sequence payload in
           let fits = wrote-frame (length before) kind sequence payload bytes e .fits in
           let few = written-bounded (length before) kind sequence payload bytes e in
-          let parts = parts-read 0 0 0 (length bytes) (omega arith) (omega arith) (omega arith) (omega (arith, few)) in
+          let parts = parts-read 0 0 0 (length bytes) noPlace (omega arith) (omega arith) (omega arith) (omega (arith, few)) in
           let size : lengthIn report ≡ length bytes = ap lengthIn (did .reports) ∙ parts .of-size in
           record { bytes = bytes; is = e; first = put-told before after bytes (lengthIn report) (did .frame) size fits }
 
@@ -115,7 +115,7 @@ module _ (kind sequence : ℕ) (payload before : List ℕ) (report : ℕ) (after
   -- payload stands at the start of that output. (Type and sequence are bytes.)
   pub call-read-back : kind < 0x100 → sequence < 0x100 → (out : List ℕ) (report₁ : ℕ) (out₁ : List ℕ) → refusalIn report ≡ 0
       → Reads (take (lengthIn report) after) out report₁ out₁ → payloadMax ≤ length out
-      → Parts report₁ 0 kind sequence (length payload) × (out₁ ≡ putAt out 0 payload)
+      → Parts report₁ 0 kind sequence (length payload) noPlace × (out₁ ≡ putAt out 0 payload)
   call-read-back kind-byte sequence-byte out report₁ out₁ none r asked =
       let s = sent none in
       let few = wrote-frame (length before) kind sequence payload (s .bytes) (s .is) .short in
@@ -123,16 +123,16 @@ module _ (kind sequence : ℕ) (payload before : List ℕ) (report : ℕ) (after
       let is : readFrame (length out) (take (lengthIn report) after) ≡ frame kind sequence payload = rw (s .first) back in
       let did = was-read r in
       let said = did .reports ∙ ap readReport is in
-      (rw said (parts-read 0 kind sequence (length payload) (omega arith) kind-byte sequence-byte (omega (arith, few))), did .payload ∙ rw is)
+      (rw said (parts-read 0 kind sequence (length payload) noPlace (omega arith) kind-byte sequence-byte (omega (arith, few))), did .payload ∙ rw is)
 
   -- THEOREM. With a payload of at most 383 bytes and room for the frame, the report is its length without a refusal, and the frame stands at
   -- the start of the output.
   pub room-enough : length payload ≤ payloadMax → sentLength kind sequence payload ≤ length before
-      → (report ≡ reportOf 0 0 0 (sentLength kind sequence payload)) × (after ≡ putAt before 0 (frameOf kind sequence payload))
+      → (report ≡ reportOf 0 0 0 (sentLength kind sequence payload) noPlace) × (after ≡ putAt before 0 (frameOf kind sequence payload))
   room-enough short room =
       let is = is-written kind sequence payload before short room in
       let did = was-written w in
-      (did .reports ∙ ap writtenReport is ∙ ap (reportOf 0 0 0) (written-length kind sequence payload), did .frame ∙ rw is)
+      (did .reports ∙ ap writtenReport is ∙ ap (λ (n : ℕ). reportOf 0 0 0 n noPlace) (written-length kind sequence payload), did .frame ∙ rw is)
 
 -- Such calls are there for all that can be lent, since the contracts ask nothing.
 pub all-bytes-are-checked : (start : ℕ) (bytes : List ℕ) → Checks start bytes (crcOf start bytes)

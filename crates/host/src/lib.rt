@@ -1,5 +1,6 @@
 // What the C firmware calls (include/arznavik.h): the frame check, the frame writer and the CRC, on
 // numbers and byte slices. A slice is passed as a pointer and a length.
+use frame::NO_PLACE;
 use frame::content::FrameRead;
 use frame::reader::read_frame;
 use frame::writer::Written;
@@ -27,12 +28,12 @@ pub extern "C" fn arznavik_frame_check(bytes: &[u8], output: &mut [u8]) -> u64
     ensures { λ r. ⌜ ReportsRead (readFrame (length (now (output .entry))) (now (bytes .entry))) (now (output .entry)) r (now (output .exit)) ⌝ }
 {
     match read_frame(bytes, output) {
-        FrameRead::Refused(number) => report(number, 0, 0, 0),
+        FrameRead::Refused { number, place } => report(number, 0, 0, 0, place),
         FrameRead::Frame {
             kind,
             sequence,
             length,
-        } => report(0, kind, sequence, length),
+        } => report(0, kind, sequence, length, NO_PLACE),
     }
 }
 
@@ -48,17 +49,17 @@ pub extern "C" fn arznavik_frame_write(
     ensures { λ r. ⌜ ReportsWritten (writeFrame (length (now (output .entry))) kind sequence (now (payload .entry))) (now (output .entry)) r (now (output .exit)) ⌝ }
 {
     match write_frame(kind, sequence, payload, output) {
-        Written::Refused(number) => report(number, 0, 0, 0),
-        Written::Length(length) => report(0, 0, 0, length),
+        Written::Refused(number) => report(number, 0, 0, 0, NO_PLACE),
+        Written::Length(length) => report(0, 0, 0, length, NO_PLACE),
     }
 }
 
 // A report: the refusal's number in bits 0 to 7, type in 8 to 15, sequence in 16 to 23, length in 24
-// to 39; the bits above are 0.
-fn report(number: u8, kind: u8, sequence: u8, length: usize) -> u64
-    requires { ⌜ length < 0x10000 ⌝ }
-    ensures { λ r. ⌜ r ≡ reportOf number kind sequence length ⌝ }
+// to 39, the refusal's place in 40 to 63.
+fn report(number: u8, kind: u8, sequence: u8, length: usize, place: usize) -> u64
+    requires { ⌜ (length < 0x10000) × (place < 0x1000000) ⌝ }
+    ensures { λ r. ⌜ r ≡ reportOf number kind sequence length place ⌝ }
 {
     let low = (number as u64) + (kind as u64) * 0x100 + (sequence as u64) * 0x10000;
-    low + (length as u64) * 0x1000000
+    low + (length as u64) * 0x1000000 + (place as u64) * 0x10000000000
 }

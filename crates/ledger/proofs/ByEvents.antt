@@ -20,7 +20,7 @@ use Rattle.ledger.proofs.LineLaws.{run-kept, repeats-last, read-sequenc
 -- of the ledger's answers those that do not depend on where a piece was cut, as History `answersAs` has it of the software's
 abbrev pub toldBy : Answer → List Answer
 toldBy nothing = []
-toldBy (refused n) = cond (eqb n shortOutput) [] (refused n ∷ [])
+toldBy (refused n place) = cond (eqb n shortOutput) [] (refused n place ∷ [])
 toldBy (heard sequence) = heard sequence ∷ []
 toldBy (again sequence) = again sequence ∷ []
 toldBy (new sequence payload verdict) = new sequence payload verdict ∷ []
@@ -87,7 +87,7 @@ frames-append l xs ys = ap framesOf (marks-append l xs ys) ∙ frames-joined (ma
 closed-sequence : (l : Ledger) (f : Frame) (fs : List Frame)
     → lastFrom (closed l f .ledger .line .sequence) (dataSequences fs) ≡ lastFrom (l .line .sequence) (dataSequences (f ∷ fs))
 unfolding dataSequences lastFrom
-closed-sequence l (frames.refused k) fs = refl
+closed-sequence l (frames.refused k place) fs = refl
 closed-sequence l (frames.acknowledgement sequence) fs = refl
 closed-sequence l (frames.good sequence payload) fs = ap (λ (o : Option ℕ). lastFrom o (dataSequences fs)) (by-last (repeated (l .line .sequence) sequence) refl)
   where

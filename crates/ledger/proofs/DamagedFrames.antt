@@ -49,7 +49,8 @@ flag-closes held (b ∷ bs) n e h = by-byte (eqb b flagByte) e (flag-closes (hel
 -- a run that is not taken is a refused frame
 record IsRefused (run : List ℕ) : Type 0 where
   number : ℕ
-  is : frameOf run ≡ frames.refused number
+  place : ℕ
+  is : frameOf run ≡ frames.refused number place
 
 not-taken : (run : List ℕ) → (IsTaken (readRun run) → ⊥) → IsRefused run
 unfolding frameOf
@@ -57,12 +58,13 @@ not-taken run wrong = cases (readRun run) refl wrong
   where
     cases : (found : frame.Read) → readRun run ≡ found → (IsTaken found → ⊥) → IsRefused run
     cases (frame.frame kind sequence payload) e wrong = absurd (wrong tt)
-    cases (frame.refused n) e wrong = record { number = n; is = ap frames.byType e }
+    cases (frame.refused n place) e wrong = record { number = n; place = place; is = ap frames.byType e }
 
 -- the answer is a refusal
 pub record RefusedAs (answer : Answer) : Type 0 where
   pub number : ℕ
-  pub is : answer ≡ Refused number
+  pub place : ℕ
+  pub is : answer ≡ Refused number place
 
 module _ (names : List (List ℕ)) (cs : List Call) (left : List Left) (end : Display) (a : Agreeing names cs left end)
     (at-flag : after (start names) cs .line .run ≡ some []) (sent arrived : List ℕ) (damage : Damaged sent arrived)
@@ -93,7 +95,7 @@ module _ (names : List (List ℕ)) (cs : List Call) (left : List Left) (end : Di
     is-refused : RefusedAs answer
     is-refused =
         let effect : Option (List ℕ) → Answer = λ frame. asAnswer names (effectOf (withRun l (t .run)) frame .answer) in
-        record { number = refusal .number; is = said ∙ ap effect closes ∙ rw (refusal .is) }
+        record { number = refusal .number; place = refusal .place; is = said ∙ ap effect closes ∙ rw (refusal .is) }
 
 -- THEOREM. After every list of calls, behind a flag: a piece with room that is the run of a good frame, so damaged, and the closing flag is answered by
 -- a refusal. (What it leaves as it was: ledger/proofs/RefusedFrames.)

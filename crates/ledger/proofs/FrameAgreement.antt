@@ -48,8 +48,8 @@ module _ {count : ℕ} (names : List (List ℕ)) (fit : Fits names) (w : Walk) (
         shows = rw same shows₀;
       })
 
-  refused-agrees : (n : ℕ) → EffectsOf count names board w (outcome (frames.refused n)) (closed l (frames.refused n))
-  refused-agrees n = kept-agrees (outcome (frames.refused n)) _ (says.Refused n) refl refl refl refl refl (count-refused (l .line .counts) n) refl
+  refused-agrees : (n place : ℕ) → EffectsOf count names board w (outcome (frames.refused n place)) (closed l (frames.refused n place))
+  refused-agrees n place = kept-agrees (outcome (frames.refused n place)) _ (says.Refused n place) refl refl refl refl refl (count-refused (l .line .counts) n) refl
 
   heard-agrees : (sequence : ℕ) → EffectsOf count names board w (outcome (frames.acknowledgement sequence)) (closed l (frames.acknowledgement sequence))
   heard-agrees sequence = kept-agrees (outcome (frames.acknowledgement sequence)) _ (says.Heard sequence) refl refl refl refl refl (count-heard (l .line .counts)) refl
@@ -66,7 +66,7 @@ module _ {count : ℕ} (names : List (List ℕ)) (fit : Fits names) (w : Walk) (
   -- a frame that was closed
   pub frame-agrees : (f : Frame) → EffectsOf count names board w (outcome f) (closed l f)
   unfolding dataFrame
-  frame-agrees (frames.refused n) = refused-agrees n
+  frame-agrees (frames.refused n place) = refused-agrees n place
   frame-agrees (frames.acknowledgement sequence) = heard-agrees sequence
   frame-agrees (frames.good sequence payload) =
       rw (same-repeats (l .line .sequence) sequence) (by-last (repeated (l .line .sequence) sequence))

@@ -33,13 +33,13 @@ asLast (some sequence) = Sequence sequence
 
 -- what a frame does to the link, by what it is
 abbrev pub linkOutcome : Frame → Last → link-counts.Counts → Outcome
-linkOutcome (frames.refused n) previous before = refusedFrame n previous before
+linkOutcome (frames.refused n place) previous before = refusedFrame n place previous before
 linkOutcome (frames.acknowledgement sequence) previous before = acknowledgementFrame sequence 0 previous before
 linkOutcome (frames.good sequence payload) previous before = dataFrame sequence payload previous before
 
 pub read-by-type : (found : content.Read) (previous : Last) (before : link-counts.Counts)
     → readOutcome found previous before ≡ linkOutcome (byType found) previous before
-read-by-type (content.refused n) previous before = refl
+read-by-type (content.refused n place) previous before = refl
 read-by-type (content.frame kind sequence payload) previous before =
     cases (eqb kind dataType) (eqb kind acknowledgementType) (eqb (length payload) 0) refl refl refl
   where
@@ -53,7 +53,7 @@ read-by-type (content.frame kind sequence payload) previous before =
 -- each of them is an answer
 pub frame-answers : (f : Frame) (previous : Last) (before : link-counts.Counts) → linkOutcome f previous before .answer ≡ link-says.Nothing → ⊥
 unfolding dataFrame
-frame-answers (frames.refused n) previous before e = impossible cc
+frame-answers (frames.refused n place) previous before e = impossible cc
 frame-answers (frames.acknowledgement sequence) previous before e = impossible cc
 frame-answers (frames.good sequence payload) previous before e = by-last (repeats previous sequence) e
   where

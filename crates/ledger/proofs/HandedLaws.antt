@@ -26,7 +26,7 @@ use Rattle.ledger.proofs.RoomLaws.{by-room}
 -- what the ledger hands out with an answer
 abbrev pub handedBy : Answer → List Handed
 handedBy answers.nothing = []
-handedBy (answers.refused n) = []
+handedBy (answers.refused n place) = []
 handedBy (answers.heard sequence) = []
 handedBy (answers.again sequence) = as-reply (answerTo sequence) ∷ []
 handedBy (answers.new sequence payload verdict) = as-reply (answerTo sequence) ∷ as-packet payload ∷ []
@@ -54,7 +54,7 @@ module _ (names : List (List ℕ)) (l : Ledger) (reply packet : List ℕ) (reply
           (put-first packet payload (omega arith))
 
   frame-handed : (f : Frame) → ((sequence : ℕ) (payload : List ℕ) → f ≡ frames.good sequence payload → length payload ≤ packetRoom) → Handed-out (closed l f)
-  frame-handed (frames.refused n) few = refl
+  frame-handed (frames.refused n place) few = refl
   frame-handed (frames.acknowledgement sequence) few = refl
   frame-handed (frames.good sequence payload) few = good-handed sequence payload (few sequence payload refl)
 

@@ -37,7 +37,7 @@ told-up xs ys = ap packetsHanded (handed-append xs ys) ∙ among-append packetIn
 frame-up : (l : Ledger) (f : Frame) (rest : Option ℕ → List BoardEvent)
     → packetsIn (behindFrame f (l .line .sequence) rest) ≡ toldUp (toldBy (closed l f .answer)) ++ packetsIn (rest (closed l f .ledger .line .sequence))
 unfolding packetsIn handedWith among
-frame-up l (frames.refused n) rest = ap (λ (hs : List Handed). packetsHanded hs ++ packetsIn (rest (l .line .sequence))) (told-handed (answers.refused n))
+frame-up l (frames.refused n place) rest = ap (λ (hs : List Handed). packetsHanded hs ++ packetsIn (rest (l .line .sequence))) (told-handed (answers.refused n place))
 frame-up l (frames.acknowledgement sequence) rest = refl
 frame-up l (frames.good sequence payload) rest = by-last (repeated (l .line .sequence) sequence) refl
   where

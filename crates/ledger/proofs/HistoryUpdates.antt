@@ -46,7 +46,7 @@ module _ (names : List (List ℕ)) where
 
   frame-followed : (l : Ledger) (f : Frame) → map nameOf (l .hives .entries) ≡ names → distinct names ≡ true → FrameFollowed l f
   unfolding lastUpdate
-  frame-followed l (frames.refused k) named once = record { events = []; sends = λ rest. refl; does = followed l _ [] named (sym (kept-all (l .hives .entries))) }
+  frame-followed l (frames.refused k place) named once = record { events = []; sends = λ rest. refl; does = followed l _ [] named (sym (kept-all (l .hives .entries))) }
   frame-followed l (frames.acknowledgement sequence) named once =
       record { events = []; sends = λ rest. refl; does = followed l _ [] named (sym (kept-all (l .hives .entries))) }
   frame-followed l (frames.good sequence payload) named once = by-last (repeated (l .line .sequence) sequence) refl

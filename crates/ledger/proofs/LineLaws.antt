@@ -22,7 +22,7 @@ read-run-kept l (reading.endMark id) = refl
 read-run-kept l (reading.update id name value) = refl
 
 pub run-kept : (l : Ledger) (f : Frame) → closed l f .ledger .line .run ≡ l .line .run
-run-kept l (frames.refused n) = refl
+run-kept l (frames.refused n place) = refl
 run-kept l (frames.acknowledgement sequence) = refl
 run-kept l (frames.good sequence payload) = cases (calls.repeated (l .line .sequence) sequence)
   where

@@ -1,6 +1,6 @@
 -- DEMAND 1 of the display, a bad frame: it is off the line and counted, and buffers, board and last sequence are as they were, since a frame
 -- that is refused hands nothing out.
-use mathlib.Core.Path.{_≡_, sym, ap, _∙_}
+use mathlib.Core.Path.{_≡_, sym, ap, ap₂, _∙_}
 use mathlib.Core.Bool.{Bool, true, false, cond}
 use mathlib.Core.List.{List, [], _∷_, map}
 use mathlib.Core.Option.{Option, some, none}
@@ -34,32 +34,35 @@ use Rattle.ledger.proofs.ClosedCalls.{closes-here}
 use Rattle.ledger.proofs.RoomLaws.{with-room}
 
 -- an effect that is answered by a refusal
-record Kept (l : Ledger) (n : ℕ) (frame : Option (List ℕ)) : Type 0 where
+record Kept (l : Ledger) (n place : ℕ) (frame : Option (List ℕ)) : Type 0 where
   number : (1 ≤ n) × (n ≤ 6)
-  closes : closedFrames frame ≡ frames.refused n ∷ []
+  closes : closedFrames frame ≡ frames.refused n place ∷ []
   reply : effectOf l frame .reply ≡ []
   packet : effectOf l frame .packet ≡ []
   entries : effectOf l frame .ledger .hives .entries ≡ l .hives .entries
   counts : effectOf l frame .ledger .line .counts ≡ plusRefused n (l .line .counts)
   sequence : effectOf l frame .ledger .line .sequence ≡ l .line .sequence
 
-module _ (names : List (List ℕ)) (n : ℕ) (l : Ledger) where
-  frame-refused : (f : Frame) → asAnswer names (closed l f .answer) ≡ Refused n → f ≡ frames.refused n
-  frame-refused (frames.refused k) e = let same : k ≡ n = cc in ap frames.refused same
+module _ (names : List (List ℕ)) (n place : ℕ) (l : Ledger) where
+  frame-refused : (f : Frame) → asAnswer names (closed l f .answer) ≡ Refused n place → f ≡ frames.refused n place
+  frame-refused (frames.refused k at) e =
+      let number : k ≡ n = cc in
+      let there : at ≡ place = cc in
+      ap₂ frames.refused number there
   frame-refused (frames.acknowledgement sequence) e = impossible cc
   frame-refused (frames.good sequence payload) e = by-last (repeated (l .line .sequence) sequence) e
     where
-      by-last : (t : Bool) → asAnswer names (cond t (calls.repeatedFrame l sequence) (calls.newFrame l sequence payload) .answer) ≡ Refused n
-          → frames.good sequence payload ≡ frames.refused n
+      by-last : (t : Bool) → asAnswer names (cond t (calls.repeatedFrame l sequence) (calls.newFrame l sequence payload) .answer) ≡ Refused n place
+          → frames.good sequence payload ≡ frames.refused n place
       by-last true e = impossible cc
       by-last false e = impossible cc
 
-  effect-kept : (frame : Option (List ℕ)) → asAnswer names (effectOf l frame .answer) ≡ Refused n → Kept l n frame
+  effect-kept : (frame : Option (List ℕ)) → asAnswer names (effectOf l frame .answer) ≡ Refused n place → Kept l n place frame
   effect-kept none e = impossible cc
   effect-kept (some run) e =
       let is = frame-refused (frameOf run) e in
       record {
-        number = frame-number run n is;
+        number = frame-number run n place is;
         closes = ap (λ (f : Frame). f ∷ []) is;
         reply = rw is;
         packet = rw is;
@@ -70,9 +73,9 @@ module _ (names : List (List ℕ)) (n : ℕ) (l : Ledger) where
 
 -- a call with room that is answered by a refusal, from 1 to 6: the frame is off the line, one more is counted under its number, and the
 -- buffers, the board and the last sequence are as they were
-pub record OffTheLine (n : ℕ) (events further : List Event) (reply packet : List ℕ) (before : Display) (reply₁ packet₁ : List ℕ) (behind : Display) : Type 0 where
+pub record OffTheLine (n place : ℕ) (events further : List Event) (reply packet : List ℕ) (before : Display) (reply₁ packet₁ : List ℕ) (behind : Display) : Type 0 where
   pub number : (1 ≤ n) × (n ≤ 6)
-  pub closes : Closes events further (frames.refused n)
+  pub closes : Closes events further (frames.refused n place)
   pub reply-kept : reply₁ ≡ reply
   pub packet-kept : packet₁ ≡ packet
   pub board-kept : behind .board ≡ before .board
@@ -80,8 +83,8 @@ pub record OffTheLine (n : ℕ) (events further : List Event) (reply packet : Li
   pub counts : behind .link .counts ≡ countOf (event.Refused n) (before .link .counts)
 
 module _ (names : List (List ℕ)) (cs : List Call) (left : List Left) (end : Display) (a : Agreeing names cs left end)
-    (bytes reply packet : List ℕ) (r : replyRoom ≤ length reply) (p : packetRoom ≤ length packet) (n count : ℕ) (reply₁ packet₁ : List ℕ) (end₁ : Display)
-    (next : Chain end (piece bytes reply packet ∷ []) (took count (Refused n) reply₁ packet₁ ∷ []) end₁) where
+    (bytes reply packet : List ℕ) (r : replyRoom ≤ length reply) (p : packetRoom ≤ length packet) (n place count : ℕ) (reply₁ packet₁ : List ℕ) (end₁ : Display)
+    (next : Chain end (piece bytes reply packet ∷ []) (took count (Refused n place) reply₁ packet₁ ∷ []) end₁) where
   abbrev l : Ledger
   l = after (start names) cs
 
@@ -91,25 +94,25 @@ module _ (names : List (List ℕ)) (cs : List Call) (left : List Left) (end : Di
   abbrev effect : Effect
   effect = effectOf (withRun l (t .run)) (t .frame)
 
-  one : Gives rowCount names (step l (piece bytes reply packet)) (took count (Refused n) reply₁ packet₁) end₁
+  one : Gives rowCount names (step l (piece bytes reply packet)) (took count (Refused n place) reply₁ packet₁) end₁
   one = next-call a next
 
   ledger-is : step l (piece bytes reply packet) .ledger ≡ effect .ledger
   ledger-is = ap (λ (s : calls.Step). s .ledger) (with-room l bytes reply packet r p)
 
-  gave : took count (Refused n) reply₁ packet₁ ≡ asLeft names (pieceStep l t reply packet .given)
+  gave : took count (Refused n place) reply₁ packet₁ ≡ asLeft names (pieceStep l t reply packet .given)
   gave = one .gives ∙ ap (λ (s : calls.Step). asLeft names (s .given)) (with-room l bytes reply packet r p)
 
-  kept : Kept (withRun l (t .run)) n (t .frame)
-  kept = let said = gave in effect-kept names n (withRun l (t .run)) (t .frame) (let same : asAnswer names (effect .answer) ≡ Refused n = cc in same)
+  kept : Kept (withRun l (t .run)) n place (t .frame)
+  kept = let said = gave in effect-kept names n place (withRun l (t .run)) (t .frame) (let same : asAnswer names (effect .answer) ≡ Refused n place = cc in same)
 
-  closed-here : Closes (history cs left) (map byte (take count bytes)) (frames.refused n)
+  closed-here : Closes (history cs left) (map byte (take count bytes)) (frames.refused n place)
   closed-here =
       let said = gave in
       let all : count ≡ t .count = cc in
-      closes-here names cs left end a bytes count (frames.refused n) all (kept .closes)
+      closes-here names cs left end a bytes count (frames.refused n place) all (kept .closes)
 
-  off-the-line : OffTheLine n (history cs left) (map byte (take count bytes)) reply packet end reply₁ packet₁ end₁
+  off-the-line : OffTheLine n place (history cs left) (map byte (take count bytes)) reply packet end reply₁ packet₁ end₁
   off-the-line =
       let said = gave in
       let replied : reply₁ ≡ putAt reply 0 (effect .reply) = cc in
@@ -137,8 +140,8 @@ module _ (names : List (List ℕ)) (cs : List Call) (left : List Left) (end : Di
 -- the line and counted under that number, and the buffers, the board and the last sequence are as they were.
 pub refused-frame : (names : List (List ℕ)) (w : WatchList) → namesIn w ≡ some names → (d : Display) → Begins w d
     → (cs : List Call) (left : List Left) (end : Display) → Chain d cs left end
-    → (bytes reply packet : List ℕ) → replyRoom ≤ length reply → packetRoom ≤ length packet → (n count : ℕ) (reply₁ packet₁ : List ℕ) (end₁ : Display)
-    → Chain end (piece bytes reply packet ∷ []) (took count (Refused n) reply₁ packet₁ ∷ []) end₁
-    → OffTheLine n (history cs left) (map byte (take count bytes)) reply packet end reply₁ packet₁ end₁
-refused-frame names w listed d begins cs left end chain bytes reply packet r p n count reply₁ packet₁ end₁ next =
-    off-the-line names cs left end (agreeing listed begins chain) bytes reply packet r p n count reply₁ packet₁ end₁ next
+    → (bytes reply packet : List ℕ) → replyRoom ≤ length reply → packetRoom ≤ length packet → (n place count : ℕ) (reply₁ packet₁ : List ℕ) (end₁ : Display)
+    → Chain end (piece bytes reply packet ∷ []) (took count (Refused n place) reply₁ packet₁ ∷ []) end₁
+    → OffTheLine n place (history cs left) (map byte (take count bytes)) reply packet end reply₁ packet₁ end₁
+refused-frame names w listed d begins cs left end chain bytes reply packet r p n place count reply₁ packet₁ end₁ next =
+    off-the-line names cs left end (agreeing listed begins chain) bytes reply packet r p n place count reply₁ packet₁ end₁ next

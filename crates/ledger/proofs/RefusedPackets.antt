@@ -61,7 +61,7 @@ module _ (names : List (List ℕ)) (l : Ledger) (bytes reply packet : List ℕ) 
 
   frame-found : (run : List ℕ) → t .frame ≡ some run → count ≡ t .count → (f : Frame) → frameOf run ≡ f
       → New m size answer ≡ asAnswer names (closed (withRun l (t .run)) f .answer) → NewFound l bytes count
-  frame-found run e counted (frames.refused n) is said = impossible cc
+  frame-found run e counted (frames.refused n place) is said = impossible cc
   frame-found run e counted (frames.acknowledgement sequence) is said = impossible cc
   frame-found run e counted (frames.good sequence payload) is said =
       record { sequence = sequence; payload = payload; counted = counted; closes = ap closedFrames e ∙ ap (λ (f : Frame). f ∷ []) is }

@@ -43,7 +43,7 @@ told-joined xs ys = ap repliesHanded (handed-append xs ys) ∙ among-append repl
 frame-replied : (l : Ledger) (f : Frame) (fs : List Frame)
     → map answerTo (dataSequences (f ∷ fs)) ≡ repliesTold (toldBy (closed l f .answer)) ++ map answerTo (dataSequences fs)
 unfolding dataSequences handedWith among
-frame-replied l (frames.refused n) fs = ap (λ (hs : List Handed). repliesHanded hs ++ map answerTo (dataSequences fs)) (told-handed (answers.refused n))
+frame-replied l (frames.refused n place) fs = ap (λ (hs : List Handed). repliesHanded hs ++ map answerTo (dataSequences fs)) (told-handed (answers.refused n place))
 frame-replied l (frames.acknowledgement sequence) fs = refl
 frame-replied l (frames.good sequence payload) fs = by-last (repeated (l .line .sequence) sequence)
   where

@@ -35,9 +35,9 @@ among-append sort (x ∷ xs) ys = ap (λ (r : List (List ℕ)). sort x ++ r) (am
 pub told-handed : (a : Answer) → handedBy a ≡ handedWith (toldBy a)
 unfolding handedWith
 told-handed answers.nothing = refl
-told-handed (answers.refused n) = by-number (eqb n shortOutput)
+told-handed (answers.refused n place) = by-number (eqb n shortOutput)
   where
-    by-number : (t : Bool) → [] ≡ handedWith (cond t [] (answers.refused n ∷ []))
+    by-number : (t : Bool) → [] ≡ handedWith (cond t [] (answers.refused n place ∷ []))
     by-number true = refl
     by-number false = refl
 told-handed (answers.heard sequence) = refl
@@ -60,9 +60,9 @@ module _ (names : List (List ℕ)) where
   -- what the software tells of an answer
   answer-told : (a : Answer) → answersAs (asAnswer names a) ≡ map (asAnswer names) (toldBy a)
   answer-told answers.nothing = refl
-  answer-told (answers.refused n) = by-number (eqb n shortOutput)
+  answer-told (answers.refused n place) = by-number (eqb n shortOutput)
     where
-      by-number : (t : Bool) → cond t [] (Refused n ∷ []) ≡ map (asAnswer names) (cond t [] (answers.refused n ∷ []))
+      by-number : (t : Bool) → cond t [] (Refused n place ∷ []) ≡ map (asAnswer names) (cond t [] (answers.refused n place ∷ []))
       by-number true = refl
       by-number false = refl
   answer-told (answers.heard sequence) = refl

@@ -82,7 +82,7 @@ module _ (array : List ℕ) (reader : Reader) (b : ℕ) (bs : List ℕ) (n : ℕ
           let same = ap (λ (end₁ : Ended). closeOf end₁ array None noCounts) (sym e) ∙ closed ∙ read-by-type (readRun (x ∷ xs)) None noCounts in
           absurd (frame-answers (byType (readRun (x ∷ xs))) None noCounts (sym (ap (λ (o : Outcome). o .answer) same)))
       by-end (ends.Content k) e = stops (ends.Content k) e refl
-      by-end (ends.Refused k) e = stops (ends.Refused k) e refl
+      by-end (ends.Refused k place) e = stops (ends.Refused k place) e refl
 
   flag-turn : (run : Option (List ℕ)) → b ≡ flagByte → Standing run array reader → Turned array reader run b bs n
   unfolding seenRun

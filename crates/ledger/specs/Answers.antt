@@ -20,11 +20,11 @@ pub data Call : Type 0 where
   piece : List ℕ → List ℕ → List ℕ → Call
   tick : Call
 
--- what a piece is answered: no frame; a refusal; the sequence heard; a data frame repeated at once; or a new one, with what the
+-- what a piece is answered: no frame; a refusal with its place; the sequence heard; a data frame repeated at once; or a new one, with what the
 -- board reads in its payload
 pub data Answer : Type 0 where
   nothing : Answer
-  refused : ℕ → Answer
+  refused : ℕ → ℕ → Answer
   heard : ℕ → Answer
   again : ℕ → Answer
   new : ℕ → List ℕ → Verdict → Answer

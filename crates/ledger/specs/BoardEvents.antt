@@ -19,7 +19,7 @@ unlessRepeated false payload rest = packet payload ∷ rest
 
 -- a frame that was closed, by the sequence of the data frame before it
 abbrev pub behindFrame : Frame → Option ℕ → (Option ℕ → List BoardEvent) → List BoardEvent
-behindFrame (refused n) last rest = rest last
+behindFrame (refused n place) last rest = rest last
 behindFrame (acknowledgement sequence) last rest = rest last
 behindFrame (good sequence payload) last rest = unlessRepeated (repeated last sequence) payload (rest (some sequence))
 

@@ -7,6 +7,7 @@ use lib.Dec.{eqb, ltb}
 use lib.ListN.{length}
 use Rattle.refusals.specs.Numbers.{shortOutput}
 use Rattle.slices.specs.Put.{putAt}
+use Rattle.frame.specs.Content.{noPlace}
 use Rattle.frame.specs.Writing as writing
 use Rattle.board.specs.Reading as reading
 use Rattle.board.specs.Reading.{Verdict, readingOf}
@@ -25,12 +26,12 @@ pub record Effect : Type 0 where
 abbrev pub withCounts : Ledger → Counts → Ledger
 withCounts l counts = withLine l (record { run = l .line .run; sequence = l .line .sequence; counts = counts })
 
--- refused: its count plus 1
-abbrev pub refusedFrame : Ledger → ℕ → Effect
-refusedFrame l n =
+-- refused: its count plus 1. 02, C-16: the answer has the place.
+abbrev pub refusedFrame : Ledger → ℕ → ℕ → Effect
+refusedFrame l n place =
     record {
       ledger = withCounts l (plusRefused n (l .line .counts));
-      answer = refused n;
+      answer = refused n place;
       reply = [];
       packet = [];
     }
@@ -88,7 +89,7 @@ newFrame l sequence payload =
     }
 
 abbrev pub closed : Ledger → Frame → Effect
-closed l (frames.refused n) = refusedFrame l n
+closed l (frames.refused n place) = refusedFrame l n place
 closed l (frames.acknowledgement sequence) = heardFrame l sequence
 closed l (frames.good sequence payload) =
     cond (repeated (l .line .sequence) sequence) (repeatedFrame l sequence) (newFrame l sequence payload)
@@ -127,7 +128,7 @@ packetRoom = 383
 
 -- short buffer: refusal 7, 0 taken, no change
 abbrev pub shortStep : Ledger → List ℕ → List ℕ → Step
-shortStep l reply packet = record { given = took 0 (refused shortOutput) reply packet; ledger = l }
+shortStep l reply packet = record { given = took 0 (refused shortOutput noPlace) reply packet; ledger = l }
 
 unfoldable pub step : Ledger → Call → Step
 step l (piece bytes reply packet) =

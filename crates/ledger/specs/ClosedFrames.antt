@@ -42,7 +42,7 @@ Closes events further f = framesIn (events ++ further) ≡ framesIn events ++ (f
 -- the sequences of the good data frames, new ones and repeated ones
 unfoldable pub dataSequences : List Frame → List ℕ
 dataSequences [] = []
-dataSequences (refused n ∷ frames) = dataSequences frames
+dataSequences (refused n place ∷ frames) = dataSequences frames
 dataSequences (acknowledgement sequence ∷ frames) = dataSequences frames
 dataSequences (good sequence payload ∷ frames) = sequence ∷ dataSequences frames
 

@@ -8,6 +8,7 @@ use lib.ListN.{length}
 use Rattle.refusals.specs.Numbers.{unknownType, loadedAcknowledgement}
 use Rattle.frame.specs.Stuffing.{flagByte}
 use Rattle.frame.specs.Content as content
+use Rattle.frame.specs.Content.{noPlace}
 use Rattle.frame.specs.Reading.{readRun}
 
 -- each byte joins the run, if there is one
@@ -44,9 +45,9 @@ unfoldable pub taken : Option (List ℕ) → List ℕ → ℕ → Taken
 taken run [] n = record { run = run; count = n; frame = none }
 taken run (b ∷ bs) n = afterTurn (turn run b) (suc n) (λ run₁ n₁. taken run₁ bs n₁)
 
--- what a frame is: refused by 1 to 6, an acknowledgement, or a good data frame
+-- what a frame is: refused by 1 to 6 with a place, an acknowledgement, or a good data frame
 pub data Frame : Type 0 where
-  refused : ℕ → Frame
+  refused : ℕ → ℕ → Frame
   acknowledgement : ℕ → Frame
   good : ℕ → List ℕ → Frame
 
@@ -57,12 +58,13 @@ dataType = 0x01
 abbrev pub acknowledgementType : ℕ
 acknowledgementType = 0x02
 
--- a frame is unstuffed from the left and tested by 1 to 4, then by its type: 5 and 6
+-- a frame is unstuffed from the left and tested by 1 to 4, then by its type: 5 and 6. 02, C-16: places are counted from the opening flag,
+-- right before the run.
 abbrev pub byType : content.Read → Frame
-byType (content.refused n) = refused n
+byType (content.refused n place) = refused n place
 byType (content.frame kind sequence payload) =
     cond (eqb kind dataType) (good sequence payload)
-    (cond (eqb kind acknowledgementType) (cond (eqb (length payload) 0) (acknowledgement sequence) (refused loadedAcknowledgement)) (refused unknownType))
+    (cond (eqb kind acknowledgementType) (cond (eqb (length payload) 0) (acknowledgement sequence) (refused loadedAcknowledgement noPlace)) (refused unknownType noPlace))
 
 unfoldable pub frameOf : List ℕ → Frame
 frameOf run = byType (readRun run)

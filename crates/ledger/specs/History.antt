@@ -45,7 +45,7 @@ pub data Handed : Type 0 where
 -- it stands at the start of the buffers, as long as the answer says
 abbrev pub handedAs : Answer → List ℕ → List ℕ → List Handed
 handedAs Nothing reply packet = []
-handedAs (Refused n) reply packet = []
+handedAs (Refused n place) reply packet = []
 handedAs (Heard sequence) reply packet = []
 handedAs (Again replied) reply packet = as-reply (take replied reply) ∷ []
 handedAs (New replied size verdict) reply packet = as-reply (take replied reply) ∷ as-packet (take size packet) ∷ []
@@ -81,7 +81,7 @@ packetsHanded handed = among packetIn handed
 -- the answers that do not depend on where a piece was cut: all but "nothing", and refusal 7, after which nothing was taken
 abbrev pub answersAs : Answer → List Answer
 answersAs Nothing = []
-answersAs (Refused n) = cond (eqb n shortOutput) [] (Refused n ∷ [])
+answersAs (Refused n place) = cond (eqb n shortOutput) [] (Refused n place ∷ [])
 answersAs (Heard sequence) = Heard sequence ∷ []
 answersAs (Again replied) = Again replied ∷ []
 answersAs (New replied size verdict) = New replied size verdict ∷ []

@@ -54,7 +54,7 @@ asReading names (reading.update id name value) = asUpdated id (placeOf name name
 
 abbrev pub asAnswer : List (List ℕ) → answers.Answer → display-answer.Answer
 asAnswer names answers.nothing = display-answer.the-variants.Nothing
-asAnswer names (answers.refused n) = display-answer.the-variants.Refused n
+asAnswer names (answers.refused n place) = display-answer.the-variants.Refused n place
 asAnswer names (answers.heard sequence) = display-answer.the-variants.Heard sequence
 asAnswer names (answers.again sequence) = display-answer.the-variants.Again (length (answerTo sequence))
 asAnswer names (answers.new sequence payload verdict) =

@@ -15,7 +15,7 @@ use Rattle.slices.specs.Written.{written, WritesAs}
 use Rattle.slices.specs.declared.Written as declared
 use Rattle.crc.specs.Crc.{linkStart, crcOf}
 use Rattle.frame.specs.Stuffing.{stuff}
-use Rattle.frame.specs.Content.{frame, refused, contentOf, judged}
+use Rattle.frame.specs.Content.{frame, refused, noPlace, contentOf, judged}
 use Rattle.frame.specs.Writing.{writeFrame}
 use Rattle.frame.proofs.StuffLaws.{length-stuff}
 use Rattle.frame.proofs.WriteLaws.{length-framed, content-room, payload-allowed}
@@ -74,9 +74,9 @@ module _ (q : ℕ) (payload : List ℕ) (previous : Last) (before : Counts) wher
   data-new e = rw e
 
 -- a frame that is refused puts nothing
-pub refuses : (o : Outcome) (n : ℕ) (previous : Last) (before : Counts) (result : Closed) (reply packet : List ℕ)
-    → o ≡ refusedFrame n previous before → result ≡ closedBy (refusedFrame n previous before) → ClosesAs o reply packet result reply packet
-refuses o n previous before result reply packet e told = rw e (record { answers = told; replied = refl; handed-out = refl })
+pub refuses : (o : Outcome) (n place : ℕ) (previous : Last) (before : Counts) (result : Closed) (reply packet : List ℕ)
+    → o ≡ refusedFrame n place previous before → result ≡ closedBy (refusedFrame n place previous before) → ClosesAs o reply packet result reply packet
+refuses o n place previous before result reply packet e told = rw e (record { answers = told; replied = refl; handed-out = refl })
 
 -- an acknowledgement that came in puts nothing
 pub heard : (q size : ℕ) (previous : Last) (before : Counts) (reply packet : List ℕ)
@@ -90,9 +90,9 @@ heard q size previous before reply packet = cases (eqb size 0) refl
 
 -- whole content, by what it was judged to be and by its type
 module _ (c : List ℕ) (previous : Last) (before : Counts) where
-  pub frame-refused : (n : ℕ) → judged c ≡ refused n → frameOutcome c previous before ≡ refusedFrame n previous before
+  pub frame-refused : (n place : ℕ) → judged c ≡ refused n place → frameOutcome c previous before ≡ refusedFrame n place previous before
   unfolding frameOutcome
-  frame-refused n e = rw e
+  frame-refused n place e = rw e
 
   module _ (kind q : ℕ) (payload : List ℕ) (e : judged c ≡ frame kind q payload) where
     pub frame-data : kind ≡ dataType → frameOutcome c previous before ≡ dataFrame q payload previous before
@@ -105,6 +105,6 @@ module _ (c : List ℕ) (previous : Last) (before : Counts) where
     frame-acknowledgement other is = rw (e, ne-eqb kind dataType other, eq-eqb kind acknowledgementType is)
 
     pub frame-unknown : (kind ≡ dataType → ⊥) → (kind ≡ acknowledgementType → ⊥)
-        → frameOutcome c previous before ≡ refusedFrame unknownType previous before
+        → frameOutcome c previous before ≡ refusedFrame unknownType noPlace previous before
     unfolding frameOutcome
     frame-unknown other neither = rw (e, ne-eqb kind dataType other, ne-eqb kind acknowledgementType neither)

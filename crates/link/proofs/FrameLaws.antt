@@ -15,7 +15,7 @@ use Rattle.link.specs.declared.counts.Counts.{Counts}
 use Rattle.link.specs.declared.reader.Phase.{Phase}
 use Rattle.link.specs.declared.reader.Phase.the-variants.{Before, Plain, Escaped, BadFraming, LongContent}
 use Rattle.link.specs.declared.receiver.Last.{Last}
-use Rattle.link.specs.Reader.{stepOf}
+use Rattle.link.specs.Reader.{nextPlace, stepOf}
 use Rattle.link.specs.Closing.{readOutcome, frameOutcome}
 use Rattle.link.specs.Seen.{Seen, nothingSeen, seenAfter, seenRun, closeSeen}
 use Rattle.link.proofs.RunLaws.{unstuffedIn, seenBy, seen-by, behind, run-unstuffed}
@@ -46,42 +46,42 @@ holds-within BadFraming held h = tt
 holds-within LongContent held h = tt
 
 -- one byte is enough
-by-holds : (m : Meaning) (bytes : List ℕ) → Held (seenBy m bytes)
-by-holds escapes-next bytes = tt
-by-holds (stands-for v) bytes = cases (ltb (length bytes) contentMax)
+by-holds : (m : Meaning) (bytes : List ℕ) (place : ℕ) → Held (seenBy m bytes place)
+by-holds escapes-next bytes place = tt
+by-holds (stands-for v) bytes place = cases (ltb (length bytes) contentMax)
   where
-    cases : (t : Bool) → Held (cond t (record { phase = Plain; bytes = bytes ++ (v ∷ []) }) (record { phase = LongContent; bytes = bytes }))
+    cases : (t : Bool) → Held (cond t (record { phase = Plain; bytes = bytes ++ (v ∷ []); place = place }) (record { phase = LongContent; bytes = bytes; place = place }))
     cases true = simp length-append (omega arith)
     cases false = tt
-by-holds faulty bytes = tt
+by-holds faulty bytes place = tt
 
-after-holds : (phase : Phase) (bytes : List ℕ) (b : ℕ) → Within phase → Held (seenAfter (record { phase = phase; bytes = bytes }) b)
+after-holds : (phase : Phase) (bytes : List ℕ) (place b : ℕ) → Within phase → Held (seenAfter (record { phase = phase; bytes = bytes; place = place }) b)
 unfolding seenAfter stepOf
-after-holds Before bytes b h = absurd h
-after-holds Plain bytes b h = subst⁻¹ Held (seen-by plain bytes b) (by-holds (meaning plain b) bytes)
-after-holds Escaped bytes b h = subst⁻¹ Held (seen-by escaped bytes b) (by-holds (meaning escaped b) bytes)
-after-holds BadFraming bytes b h = tt
-after-holds LongContent bytes b h = tt
+after-holds Before bytes place b h = absurd h
+after-holds Plain bytes place b h = subst⁻¹ Held (seen-by plain bytes place b) (by-holds (meaning plain b) bytes (nextPlace place))
+after-holds Escaped bytes place b h = subst⁻¹ Held (seen-by escaped bytes place b) (by-holds (meaning escaped b) bytes (nextPlace place))
+after-holds BadFraming bytes place b h = tt
+after-holds LongContent bytes place b h = tt
 
 run-holds : (s : Seen) (b : ℕ) (bs : List ℕ) → Within (s .phase) → Held (seenRun s (b ∷ bs))
 unfolding seenRun
-run-holds s b [] h = after-holds (s .phase) (s .bytes) b h
+run-holds s b [] h = after-holds (s .phase) (s .bytes) (s .place) b h
 run-holds s b (b₁ ∷ bs) h =
     let next = seenAfter s b in
-    run-holds next b₁ bs (holds-within (next .phase) (length (next .bytes)) (after-holds (s .phase) (s .bytes) b h))
+    run-holds next b₁ bs (holds-within (next .phase) (length (next .bytes)) (after-holds (s .phase) (s .bytes) (s .place) b h))
 
 -- what the flag does to a reader that holds a frame
-close-held : (phase : Phase) (bytes : List ℕ) (previous : Last) (before : Counts) → Holds phase (length bytes)
-    → closeSeen (record { phase = phase; bytes = bytes }) previous before ≡ readOutcome (judgedContent (unstuffedIn phase bytes)) previous before
+close-held : (phase : Phase) (bytes : List ℕ) (place : ℕ) (previous : Last) (before : Counts) → Holds phase (length bytes)
+    → closeSeen (record { phase = phase; bytes = bytes; place = place }) previous before ≡ readOutcome (judgedContent (unstuffedIn phase bytes place)) previous before
 unfolding frameOutcome
-close-held Before bytes previous before h = absurd h
-close-held Plain bytes previous before h =
+close-held Before bytes place previous before h = absurd h
+close-held Plain bytes place previous before h =
     let some : length bytes ≡ 0 → ⊥ = λ e. omega arith in
     let all : length bytes ≤ length bytes = omega arith in
     rw (ne-eqb (length bytes) 0 some, take-all (length bytes) bytes all)
-close-held Escaped bytes previous before h = refl
-close-held BadFraming bytes previous before h = refl
-close-held LongContent bytes previous before h = refl
+close-held Escaped bytes place previous before h = refl
+close-held BadFraming bytes place previous before h = refl
+close-held LongContent bytes place previous before h = refl
 
 -- 01, The ledger: a run that held bytes is a frame, unstuffed from the left and tested by 1 to 6
 pub run-close : (b : ℕ) (bs : List ℕ) (previous : Last) (before : Counts)
@@ -89,10 +89,10 @@ pub run-close : (b : ℕ) (bs : List ℕ) (previous : Last) (before : Counts)
 unfolding readRun unstuff
 run-close b bs previous before =
     let s = seenRun nothingSeen (b ∷ bs) in
-    close-held (s .phase) (s .bytes) previous before (run-holds nothingSeen b bs tt)
+    close-held (s .phase) (s .bytes) (s .place) previous before (run-holds nothingSeen b bs tt)
     ∙ ap (λ (found : Unstuffed). readOutcome (judgedContent found) previous before)
-    (run-unstuffed plain [] (b ∷ bs) ∙ whole (unstuffFrom plain 0 (b ∷ bs)))
+    (run-unstuffed plain [] 0 (b ∷ bs) (omega arith, omega arith) ∙ whole (unstuffFrom plain 0 0 (b ∷ bs)))
   where
     whole : (found : Unstuffed) → behind [] found ≡ found
     whole (content c) = refl
-    whole (refused n) = refl
+    whole (refused n place) = refl

@@ -27,7 +27,7 @@ module _ (content : List ℕ) (reader : Reader) (whole : length content ≡ cont
       by-end : (end : Ended) → flagTurn content end ≡ goes-on content₁ reader₁ → reader₁ .length ≤ contentMax
       by-end ends.Nothing f = let none : reader₁ .length ≡ 0 = cc in omega arith
       by-end (ends.Content n) f = impossible cc
-      by-end (ends.Refused n) f = impossible cc
+      by-end (ends.Refused n place) f = impossible cc
 
       by-flag : (t : Bool) → eqb b flagByte ≡ t → reader₁ .length ≤ contentMax
       by-flag true f = by-end (endedBy reader) (sym (turn-flag content reader b (eqb-true b flagByte f)) ∙ e)

@@ -16,7 +16,7 @@ use Rattle.link.specs.declared.reader.Reader.{Reader}
 use Rattle.link.specs.declared.reader.Ended.{Ended}
 use Rattle.link.specs.declared.reader.Ended.the-variants as ends
 use Rattle.link.specs.declared.receiver.Last.{Last}
-use Rattle.link.specs.Reader.{endedIn, endedBy, Step, turned, storeOf, stepBy, stepIn, stepOf, contentAfter}
+use Rattle.link.specs.Reader.{nextPlace, endedIn, endedBy, Step, turned, storeOf, stepBy, stepIn, stepOf, contentAfter}
 use Rattle.link.specs.Closing.{closeOf}
 use Rattle.link.specs.Seen.{seen, readerOf, seenAfter, closeSeen}
 use Rattle.link.proofs.ReaderLaws.{store-room, store-full}
@@ -27,35 +27,35 @@ pub record Grows (content : List ℕ) (held : ℕ) (step : Step) : Type 0 where
   pub bounded : step .reader .length ≤ contentMax
 
 module _ (content : List ℕ) (held : ℕ) (whole : length content ≡ contentMax) (within : held ≤ contentMax) where
-  turned-grows : (phase : Phase) → Grows content held (turned phase held)
-  turned-grows phase = record { content-grows = sym (append-nil (take held content)); bounded = within }
+  turned-grows : (phase : Phase) (place : ℕ) → Grows content held (turned phase held place)
+  turned-grows phase place = record { content-grows = sym (append-nil (take held content)); bounded = within }
 
-  store-grows : (b : ℕ) → Grows content held (storeOf held b)
-  store-grows b = cases (ltb held contentMax) refl
+  store-grows : (place b : ℕ) → Grows content held (storeOf held place b)
+  store-grows place b = cases (ltb held contentMax) refl
     where
-      cases : (t : Bool) → ltb held contentMax ≡ t → Grows content held (storeOf held b)
+      cases : (t : Bool) → ltb held contentMax ≡ t → Grows content held (storeOf held place b)
       cases true e =
           let room : held < contentMax = ltb-true held contentMax e in
           let inside : held < length content = omega arith in
-          rw (store-room held b room) (record { content-grows = take-suc-set content held b inside; bounded = room })
-      cases false e = rw (store-full held b (ltb-false held contentMax e)) (turned-grows LongContent)
+          rw (store-room held place b room) (record { content-grows = take-suc-set content held b inside; bounded = room })
+      cases false e = rw (store-full held place b (ltb-false held contentMax e)) (turned-grows LongContent place)
 
-  by-meaning : (m : Meaning) → Grows content held (stepBy m held)
-  by-meaning escapes-next = turned-grows Escaped
-  by-meaning (stands-for b) = store-grows b
-  by-meaning faulty = turned-grows BadFraming
+  by-meaning : (m : Meaning) (place : ℕ) → Grows content held (stepBy m held place)
+  by-meaning escapes-next place = turned-grows Escaped place
+  by-meaning (stands-for b) place = store-grows place b
+  by-meaning faulty place = turned-grows BadFraming place
 
-  by-phase : (phase : Phase) (b : ℕ) → Grows content held (stepIn phase held b)
-  by-phase Before b = turned-grows Before
-  by-phase Plain b = by-meaning (meaning plain b)
-  by-phase Escaped b = by-meaning (meaning escaped b)
-  by-phase BadFraming b = turned-grows BadFraming
-  by-phase LongContent b = turned-grows LongContent
+  by-phase : (phase : Phase) (place b : ℕ) → Grows content held (stepIn phase held place b)
+  by-phase Before place b = turned-grows Before place
+  by-phase Plain place b = by-meaning (meaning plain b) (nextPlace place)
+  by-phase Escaped place b = by-meaning (meaning escaped b) (nextPlace place)
+  by-phase BadFraming place b = turned-grows BadFraming place
+  by-phase LongContent place b = turned-grows LongContent place
 
 module _ (content : List ℕ) (reader : Reader) (whole : length content ≡ contentMax) (within : reader .length ≤ contentMax) where
   pub step-grows : (b : ℕ) → Grows content (reader .length) (stepOf reader b)
   unfolding stepOf
-  step-grows b = by-phase content (reader .length) whole within (reader .phase) b
+  step-grows b = by-phase content (reader .length) whole within (reader .phase) (reader .place) b
 
   -- what is seen tells the reader again
   pub reader-seen : readerOf (seen content reader) ≡ reader
@@ -68,15 +68,15 @@ module _ (content : List ℕ) (reader : Reader) (whole : length content ≡ cont
   unfolding seenAfter
   seen-step b =
       rw reader-seen
-      (ap (λ (bytes : List ℕ). record { phase = stepOf reader b .reader .phase; bytes = bytes }) (step-grows b .content-grows))
+      (ap (λ (bytes : List ℕ). record { phase = stepOf reader b .reader .phase; bytes = bytes; place = stepOf reader b .reader .place }) (step-grows b .content-grows))
 
   pub seen-ended : endedBy reader ≡ endedBy (readerOf (seen content reader))
   seen-ended = sym (ap endedBy reader-seen)
 
 -- and so does what the flag behind it does
-module _ (content : List ℕ) (held : ℕ) (previous : Last) (before : Counts) where
+module _ (content : List ℕ) (held place : ℕ) (previous : Last) (before : Counts) where
   close-first : (phase : Phase)
-      → closeOf (endedIn phase held) content previous before ≡ closeOf (endedIn phase held) (take held content) previous before
+      → closeOf (endedIn phase held place) content previous before ≡ closeOf (endedIn phase held place) (take held content) previous before
   close-first Before = refl
   close-first Plain = cases (eqb held 0)
     where
@@ -95,5 +95,5 @@ module _ (content : List ℕ) (held : ℕ) (previous : Last) (before : Counts) w
 pub seen-close : (content : List ℕ) (reader : Reader) (previous : Last) (before : Counts) → length content ≡ contentMax → reader .length ≤ contentMax
     → closeOf (endedBy reader) content previous before ≡ closeSeen (seen content reader) previous before
 seen-close content reader previous before whole within =
-    close-first content (reader .length) previous before (reader .phase)
+    close-first content (reader .length) (reader .place) previous before (reader .phase)
     ∙ ap (λ (end : Ended). closeOf end (take (reader .length) content) previous before) (seen-ended content reader whole within)

@@ -52,7 +52,7 @@ turn-length content reader b content₁ reader₁ e = by-flag (eqb b flagByte) r
     by-end : (end : Ended) → flagTurn content end ≡ goes-on content₁ reader₁ → length content₁ ≡ length content
     by-end ends.Nothing f = let same : content ≡ content₁ = cc in ap length (sym same)
     by-end (ends.Content n) f = impossible cc
-    by-end (ends.Refused n) f = impossible cc
+    by-end (ends.Refused n place) f = impossible cc
 
     by-flag : (t : Bool) → eqb b flagByte ≡ t → length content₁ ≡ length content
     by-flag true f = by-end (endedBy reader) (sym (turn-flag content reader b (eqb-true b flagByte f)) ∙ e)
@@ -80,7 +80,7 @@ stops-at-an-end content reader b e = by-flag (eqb b flagByte) e
     by-end : (end : Ended) → flagTurn content end ≡ stops ends.Nothing → ⊥
     by-end ends.Nothing f = impossible cc
     by-end (ends.Content n) f = impossible cc
-    by-end (ends.Refused n) f = impossible cc
+    by-end (ends.Refused n place) f = impossible cc
 
     by-flag : (t : Bool)
         → cond t (flagTurn content (endedBy reader)) (goes-on (contentAfter content (reader .length) (stepOf reader b)) (stepOf reader b .reader)) ≡ stops ends.Nothing
@@ -92,7 +92,7 @@ stops-at-an-end content reader b e = by-flag (eqb b flagByte) e
 abbrev pub onwardBy : Ended → Walk → List ℕ → Walk
 onwardBy ends.Nothing walk bytes = walkOf bytes (walk .content) (walk .reader) (walk .taken)
 onwardBy (ends.Content n) walk bytes = walk
-onwardBy (ends.Refused n) walk bytes = walk
+onwardBy (ends.Refused n place) walk bytes = walk
 
 abbrev pub onward : Walk → List ℕ → Walk
 onward walk bytes = onwardBy (walk .ended) walk bytes
@@ -113,4 +113,4 @@ walk-append (b ∷ first) rest content reader n =
     by-turn more (goes-on content₁ reader₁) some = more content₁ reader₁
     by-turn more (stops ends.Nothing) some = absurd (some refl)
     by-turn more (stops (ends.Content k)) some = refl
-    by-turn more (stops (ends.Refused k)) some = refl
+    by-turn more (stops (ends.Refused k place)) some = refl

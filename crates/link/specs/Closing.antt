@@ -6,7 +6,7 @@ use lib.Dec.{eqb}
 use lib.ListN.{length, take}
 use Rattle.refusals.specs.Numbers.{unknownType, loadedAcknowledgement}
 use Rattle.frame.specs.Content as content
-use Rattle.frame.specs.Content.{judged}
+use Rattle.frame.specs.Content.{noPlace, judged}
 use Rattle.frame.specs.Writing.{frameOf}
 use Rattle.link.specs.declared.counts.Counts.{Counts}
 use Rattle.link.specs.declared.counts.Event.the-variants as event
@@ -46,17 +46,17 @@ pub record Outcome : Type 0 where
   pub reply : List ℕ
   pub packet : List ℕ
 
--- 01, Refusal numbers: a frame refused by 1 to 6 adds one to its count
-abbrev pub refusedFrame : ℕ → Last → Counts → Outcome
-refusedFrame n previous before =
-    record { last = previous; counts = countOf (event.Refused n) before; answer = says.Refused n; reply = []; packet = [] }
+-- 01, Refusal numbers: a frame refused by 1 to 6 adds one to its count. 02, C-16: the receiver hands its place on.
+abbrev pub refusedFrame : ℕ → ℕ → Last → Counts → Outcome
+refusedFrame n place previous before =
+    record { last = previous; counts = countOf (event.Refused n) before; answer = says.Refused n place; reply = []; packet = [] }
 
 -- a valid type 02 is heard, with its sequence reported; with a payload it is refusal 6
 abbrev pub acknowledgementFrame : ℕ → ℕ → Last → Counts → Outcome
 acknowledgementFrame sequence size previous before =
     cond (eqb size 0)
     (record { last = previous; counts = countOf event.Heard before; answer = says.Heard sequence; reply = []; packet = [] })
-    (refusedFrame loadedAcknowledgement previous before)
+    (refusedFrame loadedAcknowledgement noPlace previous before)
 
 -- a repeated data frame is answered and dropped: the packet buffer is untouched
 abbrev pub againFrame : ℕ → Last → Counts → Outcome
@@ -86,11 +86,11 @@ dataFrame sequence payload previous before =
 
 -- by type: neither 01 nor 02 is refusal 5
 abbrev pub readOutcome : content.Read → Last → Counts → Outcome
-readOutcome (content.refused n) previous before = refusedFrame n previous before
+readOutcome (content.refused n place) previous before = refusedFrame n place previous before
 readOutcome (content.frame kind sequence payload) previous before =
     cond (eqb kind dataType) (dataFrame sequence payload previous before)
     (cond (eqb kind acknowledgementType) (acknowledgementFrame sequence (length payload) previous before)
-    (refusedFrame unknownType previous before))
+    (refusedFrame unknownType noPlace previous before))
 
 -- a frame by its whole content: 3 and 4, then 5 and 6
 unfoldable pub frameOutcome : List ℕ → Last → Counts → Outcome
@@ -101,4 +101,4 @@ abbrev pub closeOf : Ended → List ℕ → Last → Counts → Outcome
 closeOf ends.Nothing array previous before =
     record { last = previous; counts = before; answer = says.Nothing; reply = []; packet = [] }
 closeOf (ends.Content n) array previous before = frameOutcome (take n array) previous before
-closeOf (ends.Refused n) array previous before = refusedFrame n previous before
+closeOf (ends.Refused n place) array previous before = refusedFrame n place previous before

@@ -8,7 +8,7 @@ use lib.ListN.{replicate}
 use Rattle.refusals.specs.Numbers.{shortOutput}
 use Rattle.slices.specs.Put.{putAt}
 use Rattle.frame.specs.Stuffing.{contentMax}
-use Rattle.frame.specs.Content.{payloadMax}
+use Rattle.frame.specs.Content.{payloadMax, noPlace}
 use Rattle.link.specs.declared.counts.Event.the-variants as event
 use Rattle.link.specs.declared.reader.Phase.the-variants.{Before}
 use Rattle.link.specs.declared.receiver.Last.the-variants.{None}
@@ -30,7 +30,7 @@ pub record Call : Type 0 where
 
 -- a call with a short buffer is refused with 7, takes nothing and changes nothing
 abbrev pub shortCall : Link → Call
-shortCall state = record { link = state; taken = 0; answer = says.Refused shortOutput; reply = []; packet = [] }
+shortCall state = record { link = state; taken = 0; answer = says.Refused shortOutput noPlace; reply = []; packet = [] }
 
 -- how far the walk came, and what the frame did that it ended
 abbrev pub callOf : Walk → Outcome → Call
@@ -54,7 +54,7 @@ receiveOf state piece replySize packetSize =
 
 -- at first: before the first flag, no data frame yet, and the counts are 0
 abbrev pub freshLink : Link
-freshLink = record { content = replicate contentMax 0; reader = record { phase = Before; length = 0 }; last = None; counts = noCounts }
+freshLink = record { content = replicate contentMax 0; reader = record { phase = Before; length = 0; place = 0 }; last = None; counts = noCounts }
 
 -- 01, Refusal numbers: a packet refused by the board adds one to the unread count
 abbrev pub withUnreadPacket : Link → Link

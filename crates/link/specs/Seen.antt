@@ -13,24 +13,30 @@ use Rattle.link.specs.declared.receiver.Link.{Link}
 use Rattle.link.specs.Reader.{endedBy, stepOf}
 use Rattle.link.specs.Closing.{Outcome, closeOf}
 
--- the reader's phase, and the content so far
+-- the reader's phase, the content so far, and the place of the last byte
 pub record Seen : Type 0 where
   pub phase : Phase
   pub bytes : List ℕ
+  pub place : ℕ
 
 abbrev pub seen : List ℕ → Reader → Seen
-seen content reader = record { phase = reader .phase; bytes = take (reader .length) content }
+seen content reader = record { phase = reader .phase; bytes = take (reader .length) content; place = reader .place }
 
 abbrev pub readerOf : Seen → Reader
-readerOf s = record { phase = s .phase; length = length (s .bytes) }
+readerOf s = record { phase = s .phase; length = length (s .bytes); place = s .place }
 
 -- right behind a flag
 abbrev pub nothingSeen : Seen
-nothingSeen = record { phase = Plain; bytes = [] }
+nothingSeen = record { phase = Plain; bytes = []; place = 0 }
 
 -- one byte more that is no flag
 unfoldable pub seenAfter : Seen → ℕ → Seen
-seenAfter s b = record { phase = stepOf (readerOf s) b .reader .phase; bytes = s .bytes ++ stepOf (readerOf s) b .brings }
+seenAfter s b =
+    record {
+      phase = stepOf (readerOf s) b .reader .phase;
+      bytes = s .bytes ++ stepOf (readerOf s) b .brings;
+      place = stepOf (readerOf s) b .reader .place;
+    }
 
 -- 01, The ledger: the run is the sent bytes since the last flag
 unfoldable pub seenRun : Seen → List ℕ → Seen

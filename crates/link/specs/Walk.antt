@@ -18,7 +18,7 @@ pub data Turn : Type 0 where
 abbrev pub flagTurn : List ℕ → Ended → Turn
 flagTurn content ended.Nothing = goes-on content behindFlag
 flagTurn content (ended.Content n) = stops (ended.Content n)
-flagTurn content (ended.Refused n) = stops (ended.Refused n)
+flagTurn content (ended.Refused n place) = stops (ended.Refused n place)
 
 unfoldable pub turnOf : List ℕ → Reader → ℕ → Turn
 turnOf content reader b =

@@ -7,6 +7,7 @@ use crate::reader::Ended;
 use crate::receiver::Answer;
 use crate::receiver::Last;
 use frame::HEADER_SIZE;
+use frame::NO_PLACE;
 use frame::content::FrameRead;
 use frame::content::judge;
 use refusals::LOADED_ACKNOWLEDGEMENT;
@@ -47,7 +48,7 @@ pub(crate) fn close(
             counts,
             answer: Answer::Nothing,
         },
-        Ended::Refused(number) => refuse(number, last, counts),
+        Ended::Refused { number, place } => refuse(number, place, last, counts),
         Ended::Content(length) => {
             let whole = slices::first(content, length);
             take_frame(whole, last, counts, reply, packet)
@@ -55,15 +56,15 @@ pub(crate) fn close(
     }
 }
 
-// Counts a frame that is refused.
-fn refuse(number: u8, last: Last, counts: Counts) -> Closed
-    ensures { λ r. ⌜ r ≡ closedBy (refusedFrame number last counts) ⌝ }
+// Counts a frame that is refused, and answers its place.
+fn refuse(number: u8, place: usize, last: Last, counts: Counts) -> Closed
+    ensures { λ r. ⌜ r ≡ closedBy (refusedFrame number place last counts) ⌝ }
 {
     let counted = count(counts, Event::Refused(number));
     Closed {
         last,
         counts: counted,
-        answer: Answer::Refused(number),
+        answer: Answer::Refused { number, place },
     }
 }
 
@@ -79,7 +80,7 @@ fn take_frame(
     ensures { λ r. ⌜ ClosesAs (frameOutcome (now (content .entry)) last counts) (now (reply .entry)) (now (packet .entry)) r (now (reply .exit)) (now (packet .exit)) ⌝ }
 {
     match judge(content) {
-        FrameRead::Refused(number) => refuse(number, last, counts),
+        FrameRead::Refused { number, place } => refuse(number, place, last, counts),
         FrameRead::Frame {
             kind,
             sequence,
@@ -99,7 +100,7 @@ fn take_frame(
             if kind == ACKNOWLEDGEMENT {
                 return hear(sequence, length, last, counts);
             }
-            refuse(UNKNOWN_TYPE, last, counts)
+            refuse(UNKNOWN_TYPE, NO_PLACE, last, counts)
         }
     }
 }
@@ -109,7 +110,7 @@ fn hear(sequence: u8, length: usize, last: Last, counts: Counts) -> Closed
     ensures { λ r. ⌜ r ≡ closedBy (acknowledgementFrame sequence length last counts) ⌝ }
 {
     if length != 0 {
-        return refuse(LOADED_ACKNOWLEDGEMENT, last, counts);
+        return refuse(LOADED_ACKNOWLEDGEMENT, NO_PLACE, last, counts);
     }
     let counted = count(counts, Event::Heard);
     Closed {

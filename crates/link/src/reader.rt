@@ -5,10 +5,11 @@ use frame::ESCAPE;
 use frame::ESCAPED_DIFFERENCE;
 use frame::ESCAPED_ESCAPE;
 use frame::ESCAPED_FLAG;
+use frame::SENT_MAX;
 use refusals::BAD_FRAMING;
 use refusals::LONG_CONTENT;
 ghost use mathlib.Core.Path.{_≡_};
-ghost use Rattle.link.specs.Reader.{behindFlag, endedBy, stepOf, storeOf};
+ghost use Rattle.link.specs.Reader.{behindFlag, nextPlace, endedBy, stepOf, storeOf};
 ghost use Rattle.link.specs.Steps.{StepsAs};
 
 // Where a reader stands: before the first flag; behind a plain byte or a flag; behind an escape
@@ -21,18 +22,20 @@ pub enum Phase {
     LongContent,
 }
 
-// `length` bytes of content have been unstuffed since the last flag.
+// `length` bytes of content have been unstuffed since the last flag. `place` is that of the last byte,
+// counted from the flag as 0; at a fault it stays.
 pub struct Reader {
     pub phase: Phase,
     pub length: usize,
+    pub place: usize,
 }
 
 // What a flag ends: nothing, before the first frame and behind another flag; content of so many
-// bytes; or a frame that was refused on the way.
+// bytes; or a frame that was refused on the way, at a place.
 pub enum Ended {
     Nothing,
     Content(usize),
-    Refused(u8),
+    Refused { number: u8, place: usize },
 }
 
 // The reader right behind a flag.
@@ -42,10 +45,11 @@ pub(crate) fn behind_flag() -> Reader
     Reader {
         phase: Phase::Plain,
         length: 0,
+        place: 0,
     }
 }
 
-// What a flag ends. An escape byte right before it is refusal 1.
+// What a flag ends. An escape byte right before it is refusal 1, at the flag's place.
 pub(crate) fn ended_by_flag(reader: Reader) -> Ended
     ensures { λ r. ⌜ r ≡ endedBy reader ⌝ }
 {
@@ -58,9 +62,18 @@ pub(crate) fn ended_by_flag(reader: Reader) -> Ended
             }
             Ended::Content(reader.length)
         }
-        Phase::Escaped => Ended::Refused(BAD_FRAMING),
-        Phase::BadFraming => Ended::Refused(BAD_FRAMING),
-        Phase::LongContent => Ended::Refused(LONG_CONTENT),
+        Phase::Escaped => Ended::Refused {
+            number: BAD_FRAMING,
+            place: next_place(reader.place),
+        },
+        Phase::BadFraming => Ended::Refused {
+            number: BAD_FRAMING,
+            place: reader.place,
+        },
+        Phase::LongContent => Ended::Refused {
+            number: LONG_CONTENT,
+            place: reader.place,
+        },
     }
 }
 
@@ -70,21 +83,29 @@ pub(crate) fn step(reader: Reader, byte: u8, content: &mut [u8; CONTENT_MAX]) ->
 {
     let phase = reader.phase;
     let length = reader.length;
+    let place = next_place(reader.place);
     match phase {
         Phase::Plain => {
             if byte == ESCAPE {
                 return Reader {
                     phase: Phase::Escaped,
                     length,
+                    place,
                 };
             }
-            store(length, byte, content)
+            store(length, place, byte, content)
         }
         Phase::Escaped => match byte {
-            ESCAPED_FLAG | ESCAPED_ESCAPE => store(length, byte + ESCAPED_DIFFERENCE, content),
+            ESCAPED_FLAG | ESCAPED_ESCAPE => store(
+                length,
+                place,
+                byte + ESCAPED_DIFFERENCE,
+                content,
+            ),
             _ => Reader {
                 phase: Phase::BadFraming,
                 length,
+                place,
             },
         },
         Phase::Before => reader,
@@ -93,19 +114,30 @@ pub(crate) fn step(reader: Reader, byte: u8, content: &mut [u8; CONTENT_MAX]) ->
     }
 }
 
-// Puts one byte behind `length` bytes of content; the 388th is refusal 2.
-fn store(length: usize, byte: u8, content: &mut [u8; CONTENT_MAX]) -> Reader
-    ensures { λ r. ⌜ StepsAs (storeOf length byte) length (now (content .entry)) r (now (content .exit)) ⌝ }
+// Puts the byte that stands at a place, or ends there, behind `length` bytes of content; the 388th is
+// refusal 2.
+fn store(length: usize, place: usize, byte: u8, content: &mut [u8; CONTENT_MAX]) -> Reader
+    ensures { λ r. ⌜ StepsAs (storeOf length place byte) length (now (content .entry)) r (now (content .exit)) ⌝ }
 {
     if length < CONTENT_MAX {
         content[length] = byte;
         return Reader {
             phase: Phase::Plain,
             length: length + 1,
+            place,
         };
     }
     Reader {
         phase: Phase::LongContent,
         length,
+        place,
     }
+}
+
+// The place behind one. A fault is met within so many sent bytes, so the count ends there and can't
+// overflow, whatever the state.
+fn next_place(place: usize) -> usize
+    ensures { λ r. ⌜ r ≡ nextPlace place ⌝ }
+{
+    if place < SENT_MAX { place + 1 } else { place }
 }

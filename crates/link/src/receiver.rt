@@ -9,6 +9,7 @@ use crate::reader::Phase;
 use crate::reader::Reader;
 use crate::walk::walk;
 use frame::CONTENT_MAX;
+use frame::NO_PLACE;
 use frame::PAYLOAD_MAX;
 use refusals::SHORT_OUTPUT;
 ghost use mathlib.Core.Path.{_≡_};
@@ -33,11 +34,11 @@ pub struct Link {
     pub counts: Counts,
 }
 
-// What a call brought: no frame; a refusal's number; the sequence of an acknowledgement; the length
+// What a call brought: no frame; a refusal's number and its place; the sequence of an acknowledgement; the length
 // of the reply to a data frame that came again; or the lengths of a new one's reply and payload.
 pub enum Answer {
     Nothing,
-    Refused(u8),
+    Refused { number: u8, place: usize },
     Heard(u8),
     Again(usize),
     New { reply: usize, packet: usize },
@@ -58,6 +59,7 @@ pub fn fresh() -> Link
         reader: Reader {
             phase: Phase::Before,
             length: 0,
+            place: 0,
         },
         last: Last::None,
         counts: none(),
@@ -114,6 +116,9 @@ fn short_output(link: Link) -> Received
     Received {
         link,
         taken: 0,
-        answer: Answer::Refused(SHORT_OUTPUT),
+        answer: Answer::Refused {
+            number: SHORT_OUTPUT,
+            place: NO_PLACE,
+        },
     }
 }

@@ -136,7 +136,7 @@ fn print_reply(answer: Answer, reply: &[u8]) -> bool {
         } => reports::reply(reply, length),
         Answer::Again(length) => reports::reply(reply, length),
         Answer::Nothing => true,
-        Answer::Refused(_) => true,
+        Answer::Refused { .. } => true,
         Answer::Heard(_) => true,
     }
 }

@@ -3,9 +3,11 @@ use mathlib.Core.Path.{sym, ap, _∙_}
 use native.Mathlib.Omega.{arith}
 use lib.ListN.{length}
 use Rattle.frame.specs.Content.{payloadMax}
+use Rattle.frame.specs.Stuffing.{sentMax}
 use Rattle.frame.specs.Reading.{readFrame}
 use Rattle.frame.proofs.FrameTheorems.{read-bounded}
-use Rattle.host.proofs.ReportLaws.{packedRead, read-reported, read-size}
+use Rattle.frame.proofs.RefusalLaws.{reader-place}
+use Rattle.host.proofs.ReportLaws.{packedRead, read-reported, read-size, read-place}
 use borrow.Author.Needs.{needs}
 use Rattle.host.proofs.arznavik_frame_check.Statement.{statement}
 use Rattle.host.proofs.arznavik_frame_check.Tie as tie
@@ -17,7 +19,15 @@ enum-known-number : tie.Need-enum-known-number
 enum-known-number c = search needs
 
 report-requires : tie.Need-report-requires
-report-requires c κs = search needs
+report-requires c κs =
+    let told = c .before in
+    let called = told .before .before .before .before in
+    let a = called .before .before .before .before .args in
+    let room = length (a .output .now) in
+    let bytes = a .bytes .now in
+    let answers = sym (told .number .given .1) ∙ called .read-frame .ensures .answers in
+    let small = read-place (readFrame room bytes) _ _ sentMax (λ n place. reader-place n place room bytes) answers in
+    (omega arith, omega (arith, small))
 
 enum-known-kind : tie.Need-enum-known-kind
 enum-known-kind c = search needs
@@ -31,7 +41,7 @@ report-requires-2 c κs =
     let bytes = a .bytes .now in
     let answers = sym (told .kind .given .1) ∙ called .read-frame .ensures .answers in
     let small = read-size (readFrame room bytes) _ _ _ payloadMax (read-bounded room bytes) answers in
-    omega (arith, small)
+    (omega (arith, small), omega arith)
 
 same-length : tie.Need-same-length
 same-length c = search needs

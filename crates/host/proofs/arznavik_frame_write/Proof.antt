@@ -32,7 +32,7 @@ report-requires-2 c κs =
     let answers = sym (told .length .given .1) ∙ called .write-frame .ensures .answers in
     let bounded = written-bounded room (a .kind) (a .sequence) (a .payload .now) in
     let small = write-size (writeFrame room (a .kind) (a .sequence) (a .payload .now)) _ (2 + 2 * contentMax) bounded answers in
-    omega (arith, small)
+    (omega (arith, small), omega arith)
 
 same-length : tie.Need-same-length
 same-length c = search needs

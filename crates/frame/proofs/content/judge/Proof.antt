@@ -22,14 +22,14 @@ returns-2 c =
     let whole : 4 ≤ length content = omega arith in
     rw (judged-bad content whole (λ e. c .if2 .taken (c .before .check .ensures ∙ e)))
 
-shared-slice-read-t6 : tie.Need-shared-slice-read-t6
-shared-slice-read-t6 c = search needs
+shared-slice-read-t7 : tie.Need-shared-slice-read-t7
+shared-slice-read-t7 c = search needs
 
-shared-slice-read-t8 : tie.Need-shared-slice-read-t8
-shared-slice-read-t8 c = search needs
+shared-slice-read-t9 : tie.Need-shared-slice-read-t9
+shared-slice-read-t9 c = search needs
 
-sub-t9 : tie.Need-sub-t9
-sub-t9 c = search needs
+sub-t10 : tie.Need-sub-t10
+sub-t10 c = search needs
 
 returns-3 : tie.Need-returns-3
 returns-3 c =
@@ -46,7 +46,7 @@ judge-spec =
     returns
     check-requires
     returns-2
-    shared-slice-read-t6
-    shared-slice-read-t8
-    sub-t9
+    shared-slice-read-t7
+    shared-slice-read-t9
+    sub-t10
     returns-3)

@@ -50,7 +50,7 @@ returns : tie.Need-returns
 returns c =
     let judge = c .before .before in
     let found = judged (judge .before .before .before .args .content .now) in
-    let is = answer-refused found (c .enum-told .given .0 .0) (sym (c .enum-told .given .1) ∙ judge .judge .ensures) in
+    let is = answer-refused found (c .enum-told .given .0 .0) (c .enum-told .given .0 .1 .0) (sym (c .enum-told .given .1) ∙ judge .judge .ensures) in
     record { answers = judge .judge .ensures; output = rw is }
 
 same-length : tie.Need-same-length

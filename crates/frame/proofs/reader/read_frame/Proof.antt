@@ -6,6 +6,7 @@ use Prim.Native.Nat.{_≤_}
 use native.Mathlib.Omega.{arith}
 use borrow.Author.Tests.{not-true, not-false}
 use lib.ListN.{length}
+use Rattle.frame.specs.Content.{noPlace}
 use Rattle.frame.specs.Reading.{flaggedBytes}
 use Rattle.frame.proofs.ReadLaws.{flagged-two, frame-no-room, frame-unflagged, frame-run, between-part, refuses}
 use borrow.Author.Needs.{needs}
@@ -15,7 +16,7 @@ use Rattle.frame.proofs.reader.read_frame.Tie as tie
 returns : tie.Need-returns
 returns c =
     let a = c .before .before .before .args in
-    refuses _ 7 (a .out .now) (frame-no-room (length (a .out .now)) (a .bytes .now) (c .if1 .taken))
+    refuses _ 7 noPlace (a .out .now) (frame-no-room (length (a .out .now)) (a .bytes .now) (c .if1 .taken))
 
 flagged-requires : tie.Need-flagged-requires
 flagged-requires c κs = search needs
@@ -24,7 +25,7 @@ returns-2 : tie.Need-returns-2
 returns-2 c =
     let a = c .before .before .before .before .before .args in
     let no = sym (c .before .flagged .ensures) ∙ not-true _ (c .if2 .taken) in
-    refuses _ 1 (a .out .now) (frame-unflagged (length (a .out .now)) (a .bytes .now) (c .before .before .if1 .left) no)
+    refuses _ 1 noPlace (a .out .now) (frame-unflagged (length (a .out .now)) (a .bytes .now) (c .before .before .if1 .left) no)
 
 flags : (c : tie.Else2) → flaggedBytes (c .before .before .before .before .before .args .bytes .now) ≡ true
 flags c = sym (c .before .flagged .ensures) ∙ not-false _ (c .if2 .left)

@@ -42,8 +42,8 @@ returns c =
     let number = c .before .number in
     let call = c .before .before .before in
     let a = start call .args in
-    let is = unstuff-refused (unstuff (a .run .now)) _ (sym (number .given .1) ∙ call .unstuff .ensures .answers) in
-    refuses _ _ (a .out .now) (run-refused (a .run .now) _ is)
+    let is = unstuff-refused (unstuff (a .run .now)) _ _ (sym (number .given .1) ∙ call .unstuff .ensures .answers) in
+    refuses _ _ _ (a .out .now) (run-refused (a .run .now) _ _ is)
 
 same-length : tie.Need-same-length
 same-length c = search needs

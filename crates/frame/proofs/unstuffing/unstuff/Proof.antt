@@ -3,8 +3,8 @@
 use mathlib.Core.Path.{refl}
 use native.Mathlib.Omega.{arith}
 use lib.ListN.{replicate}
-use Rattle.frame.specs.Stuffing.{unstuff}
-use Rattle.frame.specs.ReaderSteps.{sentMax, ReadersAs}
+use Rattle.frame.specs.Stuffing.{sentMax, unstuff}
+use Rattle.frame.specs.ReaderSteps.{ReadersAs}
 use Rattle.frame.proofs.ReadersLaws.{copied, told-content, number-fits, told-refusal}
 use borrow.Author.Needs.{needs}
 use Rattle.frame.proofs.unstuffing.unstuff.Statement.{statement}
@@ -40,9 +40,6 @@ unstuffed c =
 returns : tie.Need-returns
 returns c = told-content _ _ _ _ (unstuffed (c .before)) (c .if1 .taken)
 
-sub-number : tie.Need-sub-number
-sub-number c = omega arith
-
 cast-number : tie.Need-cast-number
 cast-number c = omega (arith, number-fits _ _ _ _ (unstuffed (c .before)))
 
@@ -58,6 +55,5 @@ unstuff-spec =
     sent-count-requires
     read-plain-requires
     returns
-    sub-number
     cast-number
     returns-2)

@@ -29,7 +29,7 @@ returns c = rw (c .enum-told .given .1) (record { answers = refl; replied = refl
 returns-2 : tie.Need-returns-2
 returns-2 c =
     let told = c .before .before in
-    rw (told .ended .given .1) (refuses _ _ _ _ _ _ _ refl (c .refuse .ensures))
+    rw (told .ended .given .1) (refuses _ _ _ _ _ _ _ _ refl (c .refuse .ensures))
 
 same-length : tie.Need-same-length
 same-length c = search needs

@@ -5,7 +5,7 @@ use mathlib.Core.List.{List}
 use Prim.Native.Nat.{ℕ}
 use Rattle.refusals.specs.Numbers.{unknownType}
 use native.Mathlib.Omega.{arith}
-use Rattle.frame.specs.Content.{judged}
+use Rattle.frame.specs.Content.{noPlace, judged}
 use Rattle.frame.proofs.ContentLaws.{FoundFrame, answer-refused, answer-frame, payload-part, length-payload}
 use Rattle.link.proofs.ClosingLaws.{refuses, heard, frame-refused, frame-data, frame-acknowledgement, frame-unknown}
 use Rattle.link.proofs.closing.take_frame.Statement.{statement}
@@ -92,8 +92,8 @@ returns-3 c =
     let told = c .before .before in
     let judge = told .before .before in
     let a = start judge .args in
-    let is = answer-refused (judged (a .content .now)) _ (sym (told .number .given .1) ∙ judge .judge .ensures) in
-    refuses _ _ (a .last) (a .counts) _ (a .reply .now) (a .packet .now) (frame-refused (a .content .now) (a .last) (a .counts) _ is) (c .refuse .ensures)
+    let is = answer-refused (judged (a .content .now)) _ _ (sym (told .number .given .1) ∙ judge .judge .ensures) in
+    refuses _ _ _ (a .last) (a .counts) _ (a .reply .now) (a .packet .now) (frame-refused (a .content .now) (a .last) (a .counts) _ _ is) (c .refuse .ensures)
 
 returns-4 : tie.Need-returns-4
 returns-4 c =
@@ -101,7 +101,7 @@ returns-4 c =
     let told = other .before .before in
     let a = start (told .before .before) .args in
     let is = frame-unknown (content told) (a .last) (a .counts) _ _ _ (found told .found) (other .if1 .left) (c .before .if2 .left) in
-    refuses _ unknownType (a .last) (a .counts) _ (a .reply .now) (a .packet .now) is (c .refuse2 .ensures)
+    refuses _ unknownType noPlace (a .last) (a .counts) _ (a .reply .now) (a .packet .now) is (c .refuse2 .ensures)
 
 pub take-frame-spec : {M : Type 1} → statement M
 take-frame-spec =

@@ -16,6 +16,9 @@ returns c = rw (c .before .before .enum-told2 .given .1, eq-eqb _ _ (c .if1 .tak
 enum-told-3 : tie.Need-enum-told-3
 enum-told-3 c = search needs
 
+next-place-requires : tie.Need-next-place-requires
+next-place-requires c κs = search needs
+
 enum-told-4 : tie.Need-enum-told-4
 enum-told-4 c = search needs
 
@@ -29,7 +32,7 @@ returns-3 : tie.Need-returns-3
 returns-3 c = rw (c .before .before .enum-told2 .given .1, ne-eqb _ _ (c .if1 .left))
 
 returns-4 : tie.Need-returns-4
-returns-4 c = rw (c .enum-told3 .given .1)
+returns-4 c = rw (c .before .enum-told3 .given .1, c .next-place .ensures)
 
 returns-5 : tie.Need-returns-5
 returns-5 c = rw (c .enum-told4 .given .1)
@@ -45,6 +48,7 @@ ended-by-flag-spec =
     enum-told-2
     returns
     enum-told-3
+    next-place-requires
     enum-told-4
     enum-told-5
     returns-2

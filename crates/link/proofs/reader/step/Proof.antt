@@ -10,14 +10,18 @@ use Rattle.link.proofs.ReaderLaws.{step-plain, step-escaped, escapes, f
 use Rattle.link.proofs.reader.step.Statement.{statement}
 use Rattle.link.proofs.reader.step.Tie as tie
 
+next-place-requires : tie.Need-next-place-requires
+next-place-requires c κs = search needs
+
 enum-told : tie.Need-enum-told
 enum-told c = search needs
 
 returns : tie.Need-returns
 returns c =
     let told = c .before in
-    let a = told .before .before .args in
-    escapes (a .reader) (a .byte) (a .content .now) (told .enum-told .given .1) (c .if1 .taken)
+    let counted = told .before .before in
+    let a = counted .before .args in
+    escapes (a .reader) (a .byte) _ (counted .next-place .ensures) (a .content .now) (told .enum-told .given .1) (c .if1 .taken)
 
 store-requires : tie.Need-store-requires
 store-requires c κs = search needs
@@ -44,50 +48,55 @@ returns-2 : tie.Need-returns-2
 returns-2 c =
     let other = c .before .before in
     let told = other .before in
-    let a = told .before .before .args in
-    rw (step-plain (a .reader) (a .byte) (stands-for (a .byte)) (told .enum-told .given .1) (plain-byte (a .byte) (other .if1 .left)))
+    let counted = told .before .before in
+    let a = counted .before .args in
+    rw (step-plain (a .reader) (a .byte) _ (counted .next-place .ensures) (stands-for (a .byte)) (told .enum-told .given .1) (plain-byte (a .byte) (other .if1 .left)))
     (c .store .ensures)
 
 returns-3 : tie.Need-returns-3
 returns-3 c =
     let told = c .before .before .before .before in
-    let a = told .before .before .args in
+    let counted = told .before .before in
+    let a = counted .before .args in
     let low : 0x5d ≤ a .byte = omega arith in
     let high : a .byte ≤ 0x5e = omega arith in
-    rw (step-escaped (a .reader) (a .byte) (stands-for (a .byte + 0x20)) (told .enum-told2 .given .1) (escaped-byte (a .byte) low high))
+    rw (step-escaped (a .reader) (a .byte) _ (counted .next-place .ensures) (stands-for (a .byte + 0x20)) (told .enum-told2 .given .1) (escaped-byte (a .byte) low high))
     (c .store2 .ensures)
 
 returns-4 : tie.Need-returns-4
 returns-4 c =
     let told = c .before in
-    let a = told .before .before .args in
-    faults (a .reader) (a .byte) (a .content .now) (told .enum-told2 .given .1) (λ e. omega arith) (λ e. omega arith)
+    let counted = told .before .before in
+    let a = counted .before .args in
+    faults (a .reader) (a .byte) _ (counted .next-place .ensures) (a .content .now) (told .enum-told2 .given .1) (λ e. omega arith) (λ e. omega arith)
 
 returns-5 : tie.Need-returns-5
 returns-5 c =
     let told = c .before .before in
-    let a = told .before .before .args in
-    faults (a .reader) (a .byte) (a .content .now) (told .enum-told2 .given .1) (λ e. omega arith) (λ e. omega arith)
+    let counted = told .before .before in
+    let a = counted .before .args in
+    faults (a .reader) (a .byte) _ (counted .next-place .ensures) (a .content .now) (told .enum-told2 .given .1) (λ e. omega arith) (λ e. omega arith)
 
 returns-6 : tie.Need-returns-6
 returns-6 c =
-    let a = c .before .before .args in
-    idles (a .reader) (a .byte) (a .content .now) Before (λ held. refl) (c .enum-told3 .given .1)
+    let a = c .before .before .before .args in
+    idles (a .reader) (a .byte) (a .content .now) Before (λ held place. refl) (c .enum-told3 .given .1)
 
 returns-7 : tie.Need-returns-7
 returns-7 c =
-    let a = c .before .before .args in
-    idles (a .reader) (a .byte) (a .content .now) BadFraming (λ held. refl) (c .enum-told4 .given .1)
+    let a = c .before .before .before .args in
+    idles (a .reader) (a .byte) (a .content .now) BadFraming (λ held place. refl) (c .enum-told4 .given .1)
 
 returns-8 : tie.Need-returns-8
 returns-8 c =
-    let a = c .before .before .args in
-    idles (a .reader) (a .byte) (a .content .now) LongContent (λ held. refl) (c .enum-told5 .given .1)
+    let a = c .before .before .before .args in
+    idles (a .reader) (a .byte) (a .content .now) LongContent (λ held place. refl) (c .enum-told5 .given .1)
 
 pub step-spec : {M : Type 1} → statement M
 step-spec =
     tie.close
     (tie.spec
+    next-place-requires
     enum-told
     returns
     store-requires

@@ -10,18 +10,18 @@ use Rattle.link.proofs.reader.store.Tie as tie
 element-write-content : tie.Need-element-write-content
 element-write-content c = search needs
 
-add-t8 : tie.Need-add-t8
-add-t8 c = search needs
+add-t9 : tie.Need-add-t9
+add-t9 c = search needs
 
 returns : tie.Need-returns
 returns c =
     let a = c .before .args in
-    rw (store-room (a .length) (a .byte) (c .if1 .taken)) (record { answers = rw add-one; array = refl })
+    rw (store-room (a .length) (a .place) (a .byte) (c .if1 .taken)) (record { answers = rw add-one; array = refl })
 
 returns-2 : tie.Need-returns-2
 returns-2 c =
     let a = c .before .args in
-    turns _ LongContent (a .length) (a .content .now) (store-full (a .length) (a .byte) (c .if1 .left))
+    turns _ LongContent (a .length) (a .place) (a .content .now) (store-full (a .length) (a .place) (a .byte) (c .if1 .left))
 
 pub store-spec : {M : Type 1} → statement M
-store-spec = tie.close (tie.spec element-write-content add-t8 returns returns-2)
+store-spec = tie.close (tie.spec element-write-content add-t9 returns returns-2)

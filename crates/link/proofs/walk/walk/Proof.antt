@@ -29,7 +29,7 @@ abbrev μ-loop : tie.MeasureT-loop
 stopped : (content : List ℕ) (end : Ended) → OneOf (1 ∷ 2 ∷ []) (enums.tagOf ended-type.the-type end) → flagTurn content end ≡ stops end
 stopped content ends.Nothing k = absurd (⊎-elim (λ z. omega arith) (λ z. omega arith) k)
 stopped content (ends.Content n) k = refl
-stopped content (ends.Refused n) k = refl
+stopped content (ends.Refused n place) k = refl
 
 loop-holds : tie.Need-loop-holds Inv-loop μ-loop
 loop-holds c = (omega arith, refl)

@@ -49,11 +49,15 @@ pub fn caught(content: &Content, window: Window) -> Result<([Class; 2], u64), St
     Ok((classes(content, window), tried))
 }
 
-/// All damage within one window, the content sent as a frame behind it, is refused by 4.
+/// All damage within one window, the content sent as a frame behind it, is refused by 4, whose place
+/// is the length that no such damage changes.
 pub fn refused(content: &Content, window: Window) -> Result<([Class; 1], u64), String> {
-    let tried = try_all(content, window, |damaged| read(&framed(damaged)) == Err(4))?;
-    let length = Length::of(content.bytes.len());
-    Ok(([Class::FramedBurstIn(length)], tried))
+    let length = content.bytes.len();
+    let report = archive::refused(4, length);
+    let tried = try_all(content, window, |damaged| {
+        read(&framed(damaged)) == Err(report)
+    })?;
+    Ok(([Class::FramedBurstIn(Length::of(length))], tried))
 }
 
 /// How many patterns were tried. Two that differ only behind the content's end are one.

@@ -1,7 +1,7 @@
 //! The library's frame check on whole frames.
 
 use crate::archive;
-use crate::frame::{between_flags, read_frame, stuff, Frame, Refusal, PAYLOAD_MAX};
+use crate::frame::{between_flags, read_frame, stuff, Frame, Refusal, Refused, PAYLOAD_MAX};
 use crate::line_bytes::hex;
 
 /// The frame that the library takes, or its whole report if it refuses.
@@ -19,16 +19,16 @@ pub fn read(sent: &[u8]) -> Result<Frame, u64> {
     })
 }
 
-/// The answer of the reference, which has to be the library's.
+/// The answer of the reference, which has to be the library's, its place too.
 pub fn read_by_both(sent: &[u8]) -> Result<Result<Frame, Refusal>, String> {
     let wanted = read_frame(sent, PAYLOAD_MAX);
-    let report = |refusal: Refusal| u64::from(refusal.number());
+    let report = |refused: Refused| archive::refused(refused.reason.number(), refused.place);
     let got = read(sent);
     if got != wanted.clone().map_err(report) {
         let sent = hex(sent);
         return Err(format!("frame {sent}: {got:x?}, wanted {wanted:x?}"));
     }
-    Ok(wanted)
+    Ok(wanted.map_err(|refused| refused.reason))
 }
 
 /// A frame that both take.

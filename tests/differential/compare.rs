@@ -1,9 +1,9 @@
 //! One input given to the library and to the reference; reports and every lent byte compared.
 
 use crate::archive;
-use crate::classes::Class;
+use crate::classes::{self, Class};
 use crate::division;
-use crate::frame::{check, read_frame, write_frame, Frame, Refusal};
+use crate::frame::{check, read_frame, write_frame, Frame};
 use crate::inputs::{CheckInput, CrcInput, JoinedInput, ThreeInput, WriteInput, PLACED_MAX};
 use crate::line_bytes::hex;
 
@@ -42,10 +42,6 @@ fn taken(kind: u8, sequence: u8, length: usize) -> u64 {
     u64::from(kind) << 8 | u64::from(sequence) << 16 | (length as u64) << 24
 }
 
-fn refused(refusal: Refusal) -> u64 {
-    u64::from(refusal.number())
-}
-
 fn compare(report: u64, wanted_report: u64, bytes: &[u8], wanted: &[u8]) -> Result<(), String> {
     if report != wanted_report {
         return Err(format!("report {report:x}, wanted {wanted_report:x} (hex)"));
@@ -61,19 +57,23 @@ fn compare(report: u64, wanted_report: u64, bytes: &[u8], wanted: &[u8]) -> Resu
     }
 }
 
-pub fn frame_check(input: &CheckInput) -> Result<Class, String> {
+pub fn frame_check(input: &CheckInput) -> Result<(Vec<Class>, u64), String> {
     let answer = read_frame(&input.frame, input.room);
-    let (class, report, payload): (Class, u64, &[u8]) = match &answer {
+    let (classes, report, payload): (Vec<Class>, u64, &[u8]) = match &answer {
         Ok(Frame {
             kind,
             sequence,
             payload,
         }) => (
-            Class::checked(payload.len()),
+            vec![Class::checked(payload.len())],
             taken(*kind, *sequence, payload.len()),
             payload,
         ),
-        Err(refusal) => (Class::CheckRefused(*refusal), refused(*refusal), &[]),
+        Err(refused) => (
+            classes::of_refused(&input.frame, *refused),
+            archive::refused(refused.reason.number(), refused.place),
+            &[],
+        ),
     };
     let mut lent = Lent::new(input.room);
     let wanted = lent.with(payload);
@@ -82,7 +82,7 @@ pub fn frame_check(input: &CheckInput) -> Result<Class, String> {
         let frame = hex(&input.frame);
         format!("output of {}, frame {frame}: {fault}", input.room)
     })?;
-    Ok(class)
+    Ok((classes, 1))
 }
 
 pub fn frame_write(input: &WriteInput) -> Result<Class, String> {
@@ -93,7 +93,10 @@ pub fn frame_write(input: &WriteInput) -> Result<Class, String> {
             (Class::WrittenExactly, taken(0, 0, frame.len()), frame)
         }
         Ok(frame) => (Class::WrittenWithRoom, taken(0, 0, frame.len()), frame),
-        Err(refusal) => (Class::WriteRefused(*refusal), refused(*refusal), &[]),
+        Err(refusal) => {
+            let report = archive::refused(refusal.number(), 0);
+            (Class::WriteRefused(*refusal), report, &[])
+        }
     };
     let mut lent = Lent::new(input.room);
     let wanted = lent.with(frame);

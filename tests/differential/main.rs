@@ -7,11 +7,16 @@ mod classes;
 mod compare;
 #[path = "../reference/division.rs"]
 mod division;
+mod faults;
 #[path = "../reference/frame.rs"]
 mod frame;
 mod inputs;
 #[path = "../shared/line_bytes.rs"]
 mod line_bytes;
+#[path = "../shared/pairs.rs"]
+mod pairs;
+#[path = "../shared/places.rs"]
+mod places;
 #[path = "../shared/random.rs"]
 mod random;
 #[path = "../shared/seeds.rs"]
@@ -42,7 +47,7 @@ type Trials = trials::Trials<Class>;
 
 fn seed(trials: &mut Trials, seed: u64) {
     let mut random = Random::new(seed);
-    trials.repeat(CHECKS, &format!("seed {seed}, frame check"), || {
+    trials.each_many(&format!("seed {seed}, frame check"), 0..CHECKS, |_| {
         compare::frame_check(&inputs::check_input(&mut random))
     });
     trials.repeat(WRITES, &format!("seed {seed}, frame write"), || {
@@ -66,13 +71,27 @@ fn seed(trials: &mut Trials, seed: u64) {
 
 fn systematic_frames(trials: &mut Trials) {
     let checks = systematic::every_short_frame();
-    trials.each("short frame", checks, compare::frame_check);
+    trials.each_many("short frame", checks, compare::frame_check);
     let checks = systematic::every_length_checked();
-    trials.each("payload length, check", checks, compare::frame_check);
+    trials.each_many("payload length, check", checks, compare::frame_check);
     let checks = systematic::every_two_bits_in_a_frame();
-    trials.each("two bits in a frame", checks, compare::frame_check);
+    trials.each_many("two bits in a frame", checks, compare::frame_check);
     let writes = systematic::every_length_written();
     trials.each("payload length, write", writes, compare::frame_write);
+}
+
+/// Faults at every place of a frame.
+fn systematic_faults(trials: &mut Trials) {
+    let checks = faults::every_bad_escape();
+    trials.each_many("bad escape", checks, compare::frame_check);
+    let checks = faults::every_passing();
+    trials.each_many("about the limit", checks, compare::frame_check);
+    let checks = faults::every_bad_check();
+    trials.each_many("bad check", checks, compare::frame_check);
+    let checks = faults::every_wrong_flags();
+    trials.each_many("wrong flags", checks, compare::frame_check);
+    let checks = faults::every_two_faults();
+    trials.each_many("two faults", checks, compare::frame_check);
 }
 
 fn systematic_checks(trials: &mut Trials) {
@@ -96,6 +115,7 @@ fn main() -> ExitCode {
     trials::main("differential", Class::all(), LEAST, |trials, seeds| {
         systematic_checks(trials);
         systematic_frames(trials);
+        systematic_faults(trials);
         seeds.iter().for_each(|each| seed(trials, *each));
     })
 }

@@ -19,6 +19,9 @@ mod packet;
 mod program;
 #[path = "../shared/random.rs"]
 mod random;
+#[path = "../reference/receiver.rs"]
+#[allow(dead_code)]
+mod receiver;
 #[path = "../reference/watch_list.rs"]
 #[allow(dead_code)]
 mod watch_list;

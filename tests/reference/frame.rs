@@ -1,5 +1,6 @@
-//! The frame rules of document 01, sections "Refusal numbers" and "Frames", written for reading
-//! and not for speed. The differential test holds the library to this.
+//! The frame rules of document 01, sections "Refusal numbers" and "Frames", with the places of
+//! request C-16, written for reading and not for speed. The differential test holds the library to
+//! this.
 
 pub const FLAG: u8 = 0x7e;
 pub const ESCAPE: u8 = 0x7d;
@@ -29,6 +30,27 @@ impl Refusal {
             Refusal::LongPayload => 8,
         }
     }
+
+    fn at(self, place: usize) -> Refused {
+        Refused {
+            reason: self,
+            place,
+        }
+    }
+
+    /// "Other refusals give place 0", and so do wrong flags.
+    fn without_place(self) -> Refused {
+        self.at(0)
+    }
+}
+
+/// Why a frame was refused, and the place that goes with the reason: the offset of the byte after
+/// the escape, or of the byte that passes the limit, counted in sent bytes from the opening flag as
+/// 0; for a wrong check the length of the content; else 0.
+#[derive(Clone, Copy, Debug, PartialEq, Eq)]
+pub struct Refused {
+    pub reason: Refusal,
+    pub place: usize,
 }
 
 #[derive(Clone, Debug, PartialEq, Eq)]
@@ -67,23 +89,24 @@ pub fn stuff(content: &[u8]) -> Vec<u8> {
     sent
 }
 
-/// The content of the bytes between two flags, or the fault that comes first.
-fn unstuff(sent: &[u8]) -> Result<Vec<u8>, Refusal> {
+/// The content of the bytes between two flags, or the fault that comes first. The first of them has
+/// offset 1; behind an escape that is the last of them stands the closing flag.
+fn unstuff(sent: &[u8]) -> Result<Vec<u8>, Refused> {
     let mut content = Vec::new();
-    let mut bytes = sent.iter();
-    while let Some(&byte) = bytes.next() {
-        let plain = if byte == ESCAPE {
+    let mut bytes = (1..).zip(sent);
+    while let Some((offset, &byte)) = bytes.next() {
+        let (last, plain) = if byte == ESCAPE {
             match bytes.next() {
-                Some(0x5e) => FLAG,
-                Some(0x5d) => ESCAPE,
-                _ => return Err(Refusal::WrongEscape),
+                Some((second, 0x5e)) => (second, FLAG),
+                Some((second, 0x5d)) => (second, ESCAPE),
+                _ => return Err(Refusal::WrongEscape.at(offset + 1)),
             }
         } else {
-            byte
+            (offset, byte)
         };
         content.push(plain);
         if content.len() > CONTENT_MAX {
-            return Err(Refusal::LongContent);
+            return Err(Refusal::LongContent.at(last));
         }
     }
     Ok(content)
@@ -119,22 +142,22 @@ pub fn write_frame(
 }
 
 /// The reader of one whole frame: 7, then the flags, then 1 and 2 by whichever comes first, 3, 4.
-pub fn read_frame(bytes: &[u8], room: usize) -> Result<Frame, Refusal> {
+pub fn read_frame(bytes: &[u8], room: usize) -> Result<Frame, Refused> {
     if room < PAYLOAD_MAX {
-        return Err(Refusal::ShortOutput);
+        return Err(Refusal::ShortOutput.without_place());
     }
     let [FLAG, between @ .., FLAG] = bytes else {
-        return Err(Refusal::WrongFlags);
+        return Err(Refusal::WrongFlags.without_place());
     };
     if between.contains(&FLAG) {
-        return Err(Refusal::WrongFlags);
+        return Err(Refusal::WrongFlags.without_place());
     }
     let content = unstuff(between)?;
     let [kind, sequence, payload @ .., _, _] = content.as_slice() else {
-        return Err(Refusal::ShortContent);
+        return Err(Refusal::ShortContent.without_place());
     };
     if check(0xffff, &content) != 0 {
-        return Err(Refusal::WrongCheck);
+        return Err(Refusal::WrongCheck.at(content.len()));
     }
     Ok(Frame {
         kind: *kind,
@@ -187,5 +210,81 @@ mod known_answers {
         assert_eq!(check(0xffff, b""), 0xffff);
         assert_eq!(check(0xffff, b"123456789"), 0x29b1);
         assert_eq!(check(0, b"123456789"), 0x31c3);
+    }
+}
+
+/// Request C-16. Each frame's faults and their places were counted by hand.
+#[cfg(test)]
+mod known_places {
+    use super::*;
+
+    const PAIR: [u8; 2] = [ESCAPE, 0x5e];
+
+    /// The number and the place by which a frame is refused.
+    fn refused(bytes: &[u8]) -> (u8, usize) {
+        let refused = read_frame(bytes, PAYLOAD_MAX).expect_err("a refusal");
+        (refused.reason.number(), refused.place)
+    }
+
+    /// So many plain bytes, so many pairs, and a tail between flags.
+    fn long(plain: usize, pairs: usize, tail: &[u8]) -> (u8, usize) {
+        let sent = [&vec![0x41; plain][..], &PAIR.repeat(pairs), tail].concat();
+        refused(&between_flags(&sent))
+    }
+
+    #[test]
+    fn of_the_byte_after_the_escape() {
+        assert_eq!(refused(&[0x7e, 0x7d, 0x7e]), (1, 2));
+        assert_eq!(refused(&[0x7e, 0x7d, 0x41, 0x7e]), (1, 2));
+        assert_eq!(refused(&[0x7e, 0x7d, 0x7d, 0x5e, 0x7e]), (1, 2));
+        assert_eq!(refused(&[0x7e, 2, 0x7d, 0x5d, 0x7d, 0, 0x7e]), (1, 5));
+        assert_eq!(refused(&[0x7e, 2, 1, 0x6b, 0x4c, 0x7d, 0x7e]), (1, 6));
+    }
+
+    #[test]
+    fn of_the_byte_that_passes_the_limit() {
+        assert_eq!(long(388, 0, &[]), (2, 388));
+        assert_eq!(long(1_000, 0, &[]), (2, 388));
+        assert_eq!(long(387, 0, &PAIR), (2, 389));
+        assert_eq!(long(0, 388, &[]), (2, 776));
+        assert_eq!(long(0, 387, &[0x41]), (2, 775));
+        assert_eq!(long(188, 200, &[]), (2, 588));
+    }
+
+    /// The escape does not pass the limit; its pair would.
+    #[test]
+    fn of_an_escape_that_is_content_byte_388() {
+        assert_eq!(long(387, 0, &[ESCAPE, 0x41]), (1, 389));
+        assert_eq!(long(387, 0, &[ESCAPE]), (1, 389));
+        assert_eq!(long(0, 387, &[ESCAPE, ESCAPE]), (1, 776));
+        assert_eq!(long(0, 387, &[ESCAPE]), (1, 776));
+        assert_eq!(long(388, 0, &[ESCAPE]), (2, 388));
+    }
+
+    /// For refusal 4 the content's length, however many bytes were sent for it.
+    #[test]
+    fn of_a_wrong_check() {
+        assert_eq!(refused(&[0x7e, 2, 1, 0x6b, 0x4d, 0x7e]), (4, 4));
+        assert_eq!(long(0, 4, &[]), (4, 4));
+        assert_eq!(long(387, 0, &[]), (4, 387));
+        assert_eq!(long(0, 387, &[]), (4, 387));
+    }
+
+    #[test]
+    fn of_wrong_flags() {
+        assert_eq!(refused(&[]), (1, 0));
+        assert_eq!(refused(&[0x7e]), (1, 0));
+        assert_eq!(refused(&[0x7d, 0x41, 0x7e]), (1, 0));
+        assert_eq!(refused(&[0x7e, 0x7d, 0x41]), (1, 0));
+        assert_eq!(refused(&[0x7e, 0x7d, 0x41, 0x7e, 0x7e]), (1, 0));
+        assert_eq!(refused(&[0x7e, 0x7d, 0x7e, 0x7e]), (1, 0));
+    }
+
+    #[test]
+    fn of_all_other_refusals() {
+        assert_eq!(refused(&[0x7e, 0x7e]), (3, 0));
+        assert_eq!(refused(&[0x7e, 1, 2, 3, 0x7e]), (3, 0));
+        let short = read_frame(&[0x7e, 0x7d, 0x7e], PAYLOAD_MAX - 1);
+        assert_eq!(short, Err(Refusal::ShortOutput.at(0)));
     }
 }

@@ -18,6 +18,11 @@ extern "C" {
     ) -> u64;
 }
 
+/// The report of a call that was refused, as `arznavik.h` lays it out.
+pub fn refused(number: u8, place: usize) -> u64 {
+    u64::from(number) | (place as u64) << 40
+}
+
 // A slice is never NULL, is valid for its length, and `&mut` overlaps nothing: all that is owed.
 
 pub fn crc(start: u16, bytes: &[u8]) -> u16 {

@@ -54,23 +54,29 @@ uint64_t plain_frame_write(uint8_t type, uint8_t sequence, const uint8_t *payloa
     return (uint64_t)length << 24;
 }
 
-/* Puts the content of the bytes between two flags into `content` and its length into `length`. */
-static unsigned unstuff(const uint8_t *sent, size_t sent_length, uint8_t *content, size_t *length)
+static uint64_t refused_at(unsigned refusal, size_t place)
+{
+    return (uint64_t)refusal | (uint64_t)place << 40;
+}
+
+/* Puts the content of the bytes between two flags into `content` and its length into `length`.
+ * Answers the report of a refusal, or 0. The opening flag has offset 0, so byte i has i + 1. */
+static uint64_t unstuff(const uint8_t *sent, size_t sent_length, uint8_t *content, size_t *length)
 {
     size_t n = 0;
     for (size_t i = 0; i < sent_length; i++) {
         uint8_t byte = sent[i];
         if (byte == ARZNAVIK_ESCAPE) {
             if (++i == sent_length || (sent[i] != 0x5d && sent[i] != 0x5e))
-                return ARZNAVIK_BAD_FRAMING;
+                return refused_at(ARZNAVIK_BAD_FRAMING, i + 1);
             byte = sent[i] ^ 0x20;
         }
         if (n == ARZNAVIK_CONTENT_MAX)
-            return ARZNAVIK_LONG_CONTENT;
+            return refused_at(ARZNAVIK_LONG_CONTENT, i + 1);
         content[n++] = byte;
     }
     *length = n;
-    return ARZNAVIK_TAKEN;
+    return 0;
 }
 
 uint64_t plain_frame_check(const uint8_t *frame, size_t frame_length, uint8_t *output,
@@ -84,13 +90,13 @@ uint64_t plain_frame_check(const uint8_t *frame, size_t frame_length, uint8_t *o
         return ARZNAVIK_BAD_FRAMING;
     if (memchr(frame + 1, ARZNAVIK_FLAG, frame_length - 2) != NULL)
         return ARZNAVIK_BAD_FRAMING;
-    unsigned refusal = unstuff(frame + 1, frame_length - 2, content, &length);
-    if (refusal != ARZNAVIK_TAKEN)
-        return refusal;
+    uint64_t refused = unstuff(frame + 1, frame_length - 2, content, &length);
+    if (refused != 0)
+        return refused;
     if (length < HEADER + CHECK)
         return ARZNAVIK_SHORT_CONTENT;
     if (plain_crc(ARZNAVIK_CRC_START, content, length) != 0)
-        return ARZNAVIK_BAD_CHECK;
+        return refused_at(ARZNAVIK_BAD_CHECK, length);
     size_t payload_length = length - HEADER - CHECK;
     memcpy(output, content + HEADER, payload_length);
     return (uint64_t)content[0] << 8 | (uint64_t)content[1] << 16 | (uint64_t)payload_length << 24;

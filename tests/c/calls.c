@@ -35,6 +35,11 @@ static uint64_t report_of(uint8_t type, uint8_t sequence, size_t length)
     return (uint64_t)type << 8 | (uint64_t)sequence << 16 | (uint64_t)length << 24;
 }
 
+static uint64_t refused_at(unsigned refusal, size_t place)
+{
+    return (uint64_t)refusal | (uint64_t)place << 40;
+}
+
 static void expect_write(const char *what, struct parts parts, size_t room, uint64_t report,
                          const uint8_t *frame, size_t frame_length)
 {
@@ -75,7 +80,7 @@ void expect_written(const char *what, struct parts parts, size_t room, const uin
 
 void expect_not_written(const char *what, struct parts parts, size_t room, unsigned refusal)
 {
-    expect_write(what, parts, room, refusal, NULL, 0);
+    expect_write(what, parts, room, refused_at(refusal, 0), NULL, 0);
 }
 
 void expect_taken(const char *what, const uint8_t *frame, size_t frame_length, size_t room,
@@ -87,7 +92,7 @@ void expect_taken(const char *what, const uint8_t *frame, size_t frame_length, s
 }
 
 void expect_refused(const char *what, const uint8_t *frame, size_t frame_length, size_t room,
-                    unsigned refusal)
+                    unsigned refusal, size_t place)
 {
-    expect_check(what, frame, frame_length, room, refusal, NULL, 0);
+    expect_check(what, frame, frame_length, room, refused_at(refusal, place), NULL, 0);
 }

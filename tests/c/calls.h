@@ -23,15 +23,15 @@ struct parts {
 void expect_written(const char *what, struct parts parts, size_t room, const uint8_t *frame,
                     size_t frame_length);
 
-/* The writer refuses with this number and changes nothing. */
+/* The writer refuses with this number and place 0, and changes nothing. */
 void expect_not_written(const char *what, struct parts parts, size_t room, unsigned refusal);
 
 /* The frame check hands back exactly these parts and changes nothing else. */
 void expect_taken(const char *what, const uint8_t *frame, size_t frame_length, size_t room,
                   struct parts parts);
 
-/* The frame check refuses with this number and changes nothing. */
+/* The frame check refuses with this number and this place, and changes nothing. */
 void expect_refused(const char *what, const uint8_t *frame, size_t frame_length, size_t room,
-                    unsigned refusal);
+                    unsigned refusal, size_t place);
 
 #endif

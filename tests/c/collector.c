@@ -1,4 +1,5 @@
-/* The example's collector: how it cuts a line, and that its bounded memory changes no refusal. */
+/* The example's collector: how it cuts a line, and that its bounded memory changes no refusal and no
+ * place. */
 #include "collector.h"
 
 #include "expect.h"
@@ -47,8 +48,8 @@ static void expect_same(const uint8_t *run, size_t length)
 }
 
 /* A run of `length` sent bytes between flags: pairs first, then plain bytes, a bad escape at
- * `fault` if that is inside. */
-static void expect_same_run(size_t length, size_t pairs, size_t fault)
+ * `fault` if that is inside. Answers the run. */
+static const uint8_t *make_run(size_t length, size_t pairs, size_t fault)
 {
     static uint8_t run[RUN_MAX + 2];
     memset(run, 0x41, sizeof run);
@@ -60,7 +61,12 @@ static void expect_same_run(size_t length, size_t pairs, size_t fault)
         run[1 + fault] = ARZNAVIK_ESCAPE;
     run[0] = ARZNAVIK_FLAG;
     run[1 + length] = ARZNAVIK_FLAG;
-    expect_same(run, length + 2);
+    return run;
+}
+
+static void expect_same_run(size_t length, size_t pairs, size_t fault)
+{
+    expect_same(make_run(length, pairs, fault), length + 2);
 }
 
 static void bounded_memory(void)
@@ -78,9 +84,38 @@ static void bounded_memory(void)
     }
 }
 
+/* The greatest places stand in the last byte that is kept, the least in the first ones. */
+static void places(void)
+{
+    static const struct {
+        size_t pairs, fault;
+        unsigned refusal;
+        uint32_t place;
+    } answers[] = {
+        {388, RUN_MAX, ARZNAVIK_LONG_CONTENT, 776},
+        {387, RUN_MAX, ARZNAVIK_LONG_CONTENT, 775},
+        {0, RUN_MAX, ARZNAVIK_LONG_CONTENT, 388},
+        {387, 774, ARZNAVIK_BAD_FRAMING, 776},
+        {386, 773, ARZNAVIK_BAD_FRAMING, 775},
+        {0, 0, ARZNAVIK_BAD_FRAMING, 2},
+    };
+    uint8_t payload[ARZNAVIK_PAYLOAD_MAX];
+    for (size_t i = 0; i < sizeof answers / sizeof answers[0]; i++) {
+        struct collector collector;
+        collector_start(&collector);
+        const uint8_t *run = make_run(RUN_MAX, answers[i].pairs, answers[i].fault);
+        size_t collected = take_all(&collector, run, RUN_MAX + 2);
+        uint64_t report =
+            arznavik_check_frame(collector.frame, collected, payload, sizeof payload);
+        expect_number("refusal of a long run", arznavik_refusal(report), answers[i].refusal);
+        expect_number("place in a long run", arznavik_place(report), answers[i].place);
+    }
+}
+
 int main(void)
 {
     cuts();
     bounded_memory();
+    places();
     return expect_summary("collector");
 }

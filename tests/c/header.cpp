@@ -1,4 +1,5 @@
-// The header as C++: its names, its accessors on a report with every field set, calls with NULL.
+// The header as C++: its names, its accessors on a report with every field set and on refused calls,
+// calls with NULL.
 #include "arznavik.h"
 
 extern "C" {
@@ -30,6 +31,49 @@ static void accessors()
     expect_number("place", arznavik_place(report), 0xabcdef);
 }
 
+// A refused report has its number and its place, and nothing else.
+static void expect_place(const char *what, uint64_t report, unsigned refusal, uint32_t place)
+{
+    expect_number(what, arznavik_refusal(report), refusal);
+    expect_number(what, arznavik_place(report), place);
+    expect_number(what, arznavik_type(report), 0);
+    expect_number(what, arznavik_sequence(report), 0);
+    expect_number(what, arznavik_length(report), 0);
+}
+
+// For an escape the offset of the byte behind it, for the limit that of the byte that passes it, for
+// the check the length of the content.
+static void places()
+{
+    static const uint8_t escape[] = {0x7e, 0x7d, 0x7e};
+    static const uint8_t check[] = {0x7e, 0x02, 0x7d, 0x5d, 0xd4, 0x58, 0x7e};
+    static const uint8_t content[] = {0x7e, 0x02, 0x01, 0x7e};
+    static uint8_t limit[2 + ARZNAVIK_CONTENT_MAX + 1];
+    uint8_t output[ARZNAVIK_PAYLOAD_MAX] = {0};
+    limit[0] = limit[sizeof limit - 1] = ARZNAVIK_FLAG;
+    expect_place("place behind an escape",
+                 arznavik_check_frame(escape, sizeof escape, output, sizeof output),
+                 ARZNAVIK_BAD_FRAMING, 2);
+    expect_place("place of wrong flags",
+                 arznavik_check_frame(escape, sizeof escape - 1, output, sizeof output),
+                 ARZNAVIK_BAD_FRAMING, 0);
+    expect_place("place that passes the limit",
+                 arznavik_check_frame(limit, sizeof limit, output, sizeof output),
+                 ARZNAVIK_LONG_CONTENT, 388);
+    expect_place("place of a bad check",
+                 arznavik_check_frame(check, sizeof check, output, sizeof output),
+                 ARZNAVIK_BAD_CHECK, 4);
+    expect_place("place of short content",
+                 arznavik_check_frame(content, sizeof content, output, sizeof output),
+                 ARZNAVIK_SHORT_CONTENT, 0);
+    expect_place("place of a short output",
+                 arznavik_check_frame(escape, sizeof escape, output, sizeof output - 1),
+                 ARZNAVIK_SHORT_OUTPUT, 0);
+    expect_place("place of a long payload",
+                 arznavik_write_frame(TYPE, 1, limit, ARZNAVIK_PAYLOAD_MAX + 1, output, 0),
+                 ARZNAVIK_LONG_PAYLOAD, 0);
+}
+
 // An empty slice may have the address NULL.
 static void null_slices()
 {
@@ -52,6 +96,7 @@ int main()
 {
     names();
     accessors();
+    places();
     null_slices();
     return expect_summary("header in C++");
 }

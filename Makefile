@@ -25,7 +25,7 @@ HEADERS := $(wildcard include/*.h $(addsuffix /*.h,tests/c tests/fuzz bench exam
 C_TESTS := known_answers crc writer reader header collector line
 TESTS := $(C_TESTS) serial reference division differential damage replay_reference replay_test \
 	history_text history_text_test ash_reference ash_test packet_reference packet_test \
-	session_reference session_test
+	session_reference session_test display_reference display_test
 PLAIN := bench/plain_frame.c bench/plain_crc.c
 MEASURED := bench/workload.c $(PLAIN)
 RECEIVER ?= target/bin/receive_bench
@@ -166,6 +166,14 @@ $(OUT)/session_test: $(SESSION_TEST) | $(OUT)
 $(OUT)/session_reference: $(SESSION_TEST) crates/run_cases/stdin crates/run_cases/stdout | $(OUT)
 	$(call rust,--test)
 
+DISPLAY_TEST := tests/display/main.rs $(wildcard tests/display/*.rs) $(RUST_SHARED)
+
+$(OUT)/display_test: $(DISPLAY_TEST) | $(OUT)
+	$(call rust)
+
+$(OUT)/display_reference: $(DISPLAY_TEST) crates/run_cases/stdin crates/run_cases/stdout | $(OUT)
+	$(call rust,--test)
+
 CAPTURE := examples/captures/line
 CASE_6 := examples/histories/case_6
 AT_THE_FLAG := examples/histories/refusal_1_at_the_flag
@@ -195,6 +203,8 @@ test: $(addprefix $(OUT)/,$(TESTS)) $(OUT)/display $(REPLAY) $(CASES)
 	@$(OUT)/packet_test $(CASES)
 	@$(OUT)/session_reference --quiet
 	@$(OUT)/session_test $(CASES)
+	@$(OUT)/display_reference --quiet
+	@$(OUT)/display_test $(CASES)
 	@tests/mutants/written.py --apply-only
 	@tests/mutants/table.py --check
 

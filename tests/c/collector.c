@@ -1,5 +1,5 @@
-/* The example's collector: how it cuts a line, and that its bounded memory changes no refusal and no
- * place. */
+/* The example's collector: how it cuts a line, and that its bounded memory changes no refusal and
+ * no place. */
 #include "collector.h"
 
 #include "expect.h"

@@ -1,5 +1,5 @@
-// The header as C++: its names, its accessors on a report with every field set and on refused calls,
-// calls with NULL.
+// The header as C++: its names, its accessors on a report with every field set and on refused
+// calls, calls with NULL.
 #include "arznavik.h"
 
 extern "C" {
@@ -41,8 +41,8 @@ static void expect_place(const char *what, uint64_t report, unsigned refusal, ui
     expect_number(what, arznavik_length(report), 0);
 }
 
-// For an escape the offset of the byte behind it, for the limit that of the byte that passes it, for
-// the check the length of the content.
+// For an escape the offset of the byte behind it, for the limit that of the byte that passes it,
+// for the check the length of the content.
 static void places()
 {
     static const uint8_t escape[] = {0x7e, 0x7d, 0x7e};

@@ -49,8 +49,8 @@ pub fn caught(content: &Content, window: Window) -> Result<([Class; 2], u64), St
     Ok((classes(content, window), tried))
 }
 
-/// All damage within one window, the content sent as a frame behind it, is refused by 4, whose place
-/// is the length that no such damage changes.
+/// All damage within one window, the content sent as a frame behind it, is refused by 4, whose
+/// place is the content's length.
 pub fn refused(content: &Content, window: Window) -> Result<([Class; 1], u64), String> {
     let length = content.bytes.len();
     let report = archive::refused(4, length);

@@ -2,13 +2,13 @@
 
 use crate::frame::{between_flags, check, enclose, stuff, CONTENT_MAX, ESCAPE, FLAG, PAYLOAD_MAX};
 use crate::inputs::CheckInput;
-use crate::pairs::{fewest_pairs, sent, ORDERS};
+use crate::pairs::{fewest_pairs, sent, Order, ORDERS};
 use std::ops::RangeInclusive;
 
 /// Offsets of the byte after an escape: the least, and up to a little past the greatest place.
 const OFFSETS: RangeInclusive<usize> = 2..=790;
 
-/// What is a fault behind any content: an escape before the closing flag, and each kind of bad pair.
+/// What is a fault behind any content: an escape before the closing flag, each kind of bad pair.
 const BAD: [&[u8]; 6] = [
     &[ESCAPE],
     &[ESCAPE, 0x41],
@@ -92,8 +92,8 @@ fn between() -> [Vec<u8>; 6] {
         vec![],
         vec![0x01, ESCAPE, 0x41, ESCAPE],
         vec![0x01, 0x02, 0x03, 0x04, 0x05],
-        sent(CONTENT_MAX, 30, ORDERS[2]),
-        sent(CONTENT_MAX + 1, 30, ORDERS[2]),
+        sent(CONTENT_MAX, 30, Order::Spread),
+        sent(CONTENT_MAX + 1, 30, Order::Spread),
     ]
 }
 
@@ -113,21 +113,21 @@ pub fn every_wrong_flags() -> impl Iterator<Item = CheckInput> {
     few.chain(frames).map(input)
 }
 
-/// A bad escape at each offset and then another one or too much content; too much content and then a
-/// bad escape.
+/// A bad escape at each offset and then another one or too much content; too much content and then
+/// a bad escape.
 pub fn every_two_faults() -> impl Iterator<Item = CheckInput> {
-    let much = sent(CONTENT_MAX + 1, 0, ORDERS[0]);
+    let much = sent(CONTENT_MAX + 1, 0, Order::First);
     let escape_first = OFFSETS.flat_map(move |offset| {
         let pairs = fewest_pairs(offset - 2, CONTENT_MAX);
         let before = sent(offset - 2 - pairs, pairs, ORDERS[offset % ORDERS.len()]);
-        let between = sent(offset % 7, offset % 2, ORDERS[0]);
+        let between = sent(offset % 7, offset % 2, Order::First);
         let bad = BAD[1 + offset % (BAD.len() - 1)];
         let second: [&[u8]; 4] = [BAD[0], BAD[1], BAD[2], &much];
         second.map(|second| framed(&[&before, bad, &between, second]))
     });
     let limit_first = (0..=CONTENT_MAX + 1).flat_map(|pairs| {
         let before = sent(CONTENT_MAX + 1, pairs, ORDERS[pairs % ORDERS.len()]);
-        let between = sent(pairs % 7, 0, ORDERS[0]);
+        let between = sent(pairs % 7, 0, Order::First);
         BAD.map(|bad| framed(&[&before, &between, bad]))
     });
     escape_first.chain(limit_first)

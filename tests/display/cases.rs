@@ -1,5 +1,5 @@
-//! A list of calls of a fresh display: the lines that `run_cases` is given for it, and what they have
-//! to print.
+//! A list of calls of a fresh display: the lines that `run_cases` is given for it, and what they
+//! have to print.
 
 use crate::batches::{self, Step};
 use crate::board::Reading;

@@ -19,7 +19,8 @@ pub enum Class {
     Unread,
     Refused(u8),
     Place(Place),
-    /// The opening flag and the byte of the place, or the last content byte, came in different pieces.
+    /// The frame's first byte and the byte of the place, for 4 the last one, came in different
+    /// pieces.
     Across(u8),
     /// A piece ended with the escape before the byte of this place.
     CutBehindEscape(Place),
@@ -141,7 +142,7 @@ impl Cut {
         classes
     }
 
-    /// The kinds of a fault at a byte, from which on there are so many bytes before the closing flag.
+    /// The kinds of a fault at a byte, with so many bytes from there to the closing flag.
     fn of_fault(&self, refused: Refused, place: Place, behind: usize) -> Vec<Class> {
         let number = refused.reason.number();
         let is_cut = AFTER_ESCAPE.contains(&place) && self.starts.contains(&refused.place);

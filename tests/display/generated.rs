@@ -1,5 +1,5 @@
-//! Random lists of calls: good frames, frames with a fault or several, runs without an end, noise, all
-//! cut anywhere, with ticks and refused calls between.
+//! Random lists of calls: good frames, frames with a fault or several, runs without an end, noise,
+//! all cut anywhere, with ticks and refused calls between.
 
 use crate::cases::{Case, Event, LINE_BYTES_MAX, ZEROS_MAX};
 use crate::frame::{between_flags, check, enclose, stuff, CONTENT_MAX, ESCAPE, FLAG, PAYLOAD_MAX};
@@ -233,8 +233,8 @@ fn several_faults(random: &mut Random) -> Vec<u8> {
     between
 }
 
-/// The line in pieces: single bytes, pieces of random lengths, cut behind escapes and around flags, or
-/// as few as there can be.
+/// The line in pieces: single bytes, pieces of random lengths, cut behind escapes and around flags,
+/// or as few as there can be.
 fn cut(random: &mut Random, line: &[u8]) -> Vec<Vec<u8>> {
     let most = match random.below(6) {
         0 if line.len() <= SINGLE_MAX => 1,

@@ -1,6 +1,6 @@
-//! Runs the calls of the display by the program `run_cases`, each list of calls from a fresh display
-//! on, and compares what it prints with the reference: every answer with its place, the replies, the
-//! packets, and at the end of each list the counts and the rows.
+//! Runs the calls of the display by the program `run_cases`, each list of calls from a fresh
+//! display on, and compares what it prints with the reference: every answer with its place, the
+//! replies, the packets, and at the end of each list the counts and the rows.
 //!
 //! Arguments: the program, then seeds; without them the run is always the same.
 
@@ -77,8 +77,8 @@ fn parts<'a>(program: &'a str, seeds: &'a [u64]) -> Vec<Part<'a, Class>> {
     parts
 }
 
-/// Without the program: the lists have enough calls, they meet each kind of answer often enough, and
-/// the program reads their lines.
+/// Without the program: the lists have enough calls, they meet each kind of answer often enough,
+/// and the program reads their lines.
 #[cfg(test)]
 #[test]
 fn calls_are_many_and_of_each_kind() {

@@ -3,7 +3,7 @@
 use crate::cases::{Case, Event, ZEROS_MAX};
 use crate::frame::{between_flags, enclose, CONTENT_MAX, ESCAPE, FLAG};
 use crate::packet::CASE_6;
-use crate::pairs::{fewest_pairs, sent, ORDERS};
+use crate::pairs::{fewest_pairs, sent, Order, ORDERS};
 
 /// The acknowledgement that stands behind a fault, to see that it is heard: known answer 2.
 const NEXT: [u8; 5] = [0x02, 0x01, 0x6b, 0x4c, FLAG];
@@ -22,8 +22,8 @@ fn zeros(count: usize) -> impl Iterator<Item = Event> {
     whole.chain(left.map(Event::Zeros))
 }
 
-/// Noise, an update twice, an escape before a flag, an acknowledgement, a bad escape, a wrong check,
-/// an end mark.
+/// Noise, an update twice, an escape before a flag, an acknowledgement, a bad escape, a wrong
+/// check, an end mark.
 fn first_line() -> Vec<u8> {
     let update = enclose(1, 1, CASE_6);
     let parts: [&[u8]; 8] = [
@@ -41,8 +41,8 @@ fn first_line() -> Vec<u8> {
     parts.concat()
 }
 
-/// An escape before an escape and before a good pair, two bad pairs, an escape before a flag at once,
-/// pairs in good frames, each other refusal, a name that is not watched.
+/// An escape before an escape and before a good pair, two bad pairs, nothing but an escape, pairs
+/// in good frames, each other refusal, a name that is not watched.
 fn second_line() -> Vec<u8> {
     let parts: [&[u8]; 9] = [
         &[FLAG, ESCAPE, ESCAPE, 0x5e, FLAG],
@@ -88,9 +88,8 @@ pub fn places() -> impl Iterator<Item = Case> {
         .chain(two_faults())
 }
 
-/// A frame from its opening flag to a place in it, from there on, and NEXT: in one piece, cut there,
-/// cut around there, in pieces of 100 bytes, or byte by byte from shortly before. The number says
-/// which.
+/// A frame and NEXT: in one piece, cut at a place, cut around it, in pieces of 100 bytes, or byte
+/// by byte from shortly before the place. The number says which.
 fn cut_at(number: usize, between: &[u8], place: usize) -> Case {
     let line = [&between_flags(between)[..], &NEXT].concat();
     let (first, rest) = line.split_at(place);
@@ -112,7 +111,7 @@ fn cut_at(number: usize, between: &[u8], place: usize) -> Case {
     }
 }
 
-/// What stands behind an escape and is a fault, or ends the frame.
+/// What stands behind a bad escape: a plain byte, nothing but the flag, another escape, more bytes.
 const BAD: [&[u8]; 4] = [&[0x41], &[], &[ESCAPE], &[0x5f, 0x41, 0x41]];
 
 /// Each offset of the byte after a bad escape, with the fewest and the most pairs before it.
@@ -120,11 +119,8 @@ fn behind_escapes() -> impl Iterator<Item = Case> {
     (2..=776).flat_map(|place| {
         let length = place - 2;
         [fewest_pairs(length, CONTENT_MAX), length / 2].map(|pairs| {
-            let before = sent(
-                length - pairs,
-                pairs,
-                ORDERS[(place + pairs) % ORDERS.len()],
-            );
+            let order = ORDERS[(place + pairs) % ORDERS.len()];
+            let before = sent(length - pairs, pairs, order);
             let between = [&before[..], &[ESCAPE], BAD[place % BAD.len()]].concat();
             cut_at(place / BAD.len() + pairs, &between, place)
         })
@@ -137,7 +133,7 @@ const TAILS: [&[u8]; 4] = [&[], &[0x41], &[ESCAPE], &[ESCAPE, 0x00]];
 /// Content of 388 bytes with each number of pairs, the last byte plain or a pair.
 fn passing() -> impl Iterator<Item = Case> {
     (0..=CONTENT_MAX + 1).flat_map(|pairs| {
-        [ORDERS[0], ORDERS[1]].map(|order| {
+        [Order::First, Order::Last].map(|order| {
             let passing = sent(CONTENT_MAX + 1, pairs, order);
             let between = [&passing[..], TAILS[pairs % TAILS.len()]].concat();
             cut_at(pairs / TAILS.len(), &between, passing.len())
@@ -145,8 +141,8 @@ fn passing() -> impl Iterator<Item = Case> {
     })
 }
 
-/// Content of 387 bytes with each number of pairs and an escape behind it: before a byte, before the
-/// flag, before another escape.
+/// Content of 387 bytes with each number of pairs and an escape behind it: before a byte, before
+/// the flag, before another escape.
 fn nearly_passing() -> impl Iterator<Item = Case> {
     (0..=CONTENT_MAX).flat_map(|pairs| {
         [BAD[0], BAD[1], BAD[2]].map(|bad| {
@@ -169,9 +165,9 @@ fn wrong_checks() -> impl Iterator<Item = Case> {
 /// Two bad escapes; a bad escape and then too much content; too much content and then a bad escape.
 /// Both lie in one piece or in two.
 fn two_faults() -> impl Iterator<Item = Case> {
-    let much = sent(CONTENT_MAX + 1, 5, ORDERS[1]);
+    let much = sent(CONTENT_MAX + 1, 5, Order::Last);
     (0..40).flat_map(move |apart| {
-        let near = sent(apart, apart / 2, ORDERS[2]);
+        let near = sent(apart, apart / 2, Order::Spread);
         let bad = [ESCAPE, 0x00];
         let lines: [[&[u8]; 3]; 3] = [
             [&bad, &near, &bad],
@@ -185,14 +181,15 @@ fn two_faults() -> impl Iterator<Item = Case> {
     })
 }
 
-/// A fault and then far more bytes than a frame has, or than 16 bits count, in pieces of zero bytes;
-/// with another fault behind them or none.
+/// A fault and then far more bytes than a frame has, or than 16 bits count, in pieces of zero
+/// bytes; with another fault behind them or none.
 pub fn long_runs() -> impl Iterator<Item = Case> {
     let counts = [1_001, 1_200, 3_000, 65_536, 66_000];
     let cases = counts.into_iter().flat_map(|count| {
-        let passing = sent(CONTENT_MAX + 1, 0, ORDERS[0]);
-        let most = sent(CONTENT_MAX + 1, CONTENT_MAX + 1, ORDERS[0]);
-        let nearly = [&sent(CONTENT_MAX, 100, ORDERS[2])[..], &[ESCAPE, ESCAPE]].concat();
+        let passing = sent(CONTENT_MAX + 1, 0, Order::First);
+        let most = sent(CONTENT_MAX + 1, CONTENT_MAX + 1, Order::First);
+        let mut nearly = sent(CONTENT_MAX, 100, Order::Spread);
+        nearly.extend([ESCAPE, ESCAPE]);
         let faults = [vec![], vec![ESCAPE, 0x00], nearly, passing, most];
         let tails: [&[u8]; 3] = [&[FLAG], &[ESCAPE, FLAG], &[ESCAPE, 0x01, FLAG]];
         faults

@@ -1,6 +1,6 @@
-//! The calls of the receiver, from document 01 ("The receiver", "The ledger" and refusals 1 to 7) with
-//! the places of request C-16, written for reading and not for speed. The comparison of tests/display/
-//! holds `run_cases` to this, and the program written a second time rests on it.
+//! The calls of the receiver, from document 01 ("The receiver", "The ledger" and refusals 1 to 7)
+//! with the places of request C-16, written for reading and not for speed. The comparison of
+//! tests/display/ holds `run_cases` to this, and the program written a second time rests on it.
 
 use crate::board::{self, Board, Reading};
 use crate::frame::{self, between_flags, enclose, read_frame, Frame, FLAG, PAYLOAD_MAX};
@@ -75,7 +75,7 @@ pub struct Counts {
 }
 
 impl Counts {
-    /// The two lines of "Program and C host". "Each count is 16 bits and goes from 65,535 back to 0."
+    /// The two lines of the program. "Each count is 16 bits and goes from 65,535 back to 0."
     pub fn shown(&self) -> String {
         let [new, again, heard, unread] =
             [self.new, self.again, self.heard, self.unread].map(|count| count % 65_536);

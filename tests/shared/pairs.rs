@@ -12,7 +12,7 @@ pub enum Order {
 
 pub const ORDERS: [Order; 3] = [Order::First, Order::Last, Order::Spread];
 
-/// The second of these is a pair's last byte that stands alone, and the last one is next to an escape.
+/// The second of these is a pair's last byte that stands alone, the last one is near an escape.
 const PLAIN: [u8; 4] = [0x41, 0x5e, 0x00, 0x7c];
 
 const PAIRS: [[u8; 2]; 2] = [[ESCAPE, 0x5e], [ESCAPE, 0x5d]];

@@ -11,7 +11,7 @@ static const uint8_t TYPE = ARZNAVIK_TYPE_ACKNOWLEDGEMENT;
 // What programs compiled with this version have built in.
 static void names()
 {
-    expect_number("major version", ARZNAVIK_VERSION_MAJOR, 1);
+    expect_number("major version", ARZNAVIK_VERSION_MAJOR, 2);
     expect_number("minor version", ARZNAVIK_VERSION_MINOR, 0);
     expect_number("type of data", ARZNAVIK_TYPE_DATA, 1);
     expect_number("type of an acknowledgement", ARZNAVIK_TYPE_ACKNOWLEDGEMENT, 2);

@@ -94,7 +94,7 @@ pub fn line_in(history: &[u8]) -> Result<Vec<u8>, String> {
     Ok(pieces.collect::<Vec<_>>().concat())
 }
 
-fn fields(history: &[u8]) -> Result<Vec<Field>, String> {
+fn fields(history: &[u8]) -> Result<Vec<Field<'_>>, String> {
     let mut fields = Vec::new();
     let mut at = 0;
     while at < history.len() {
@@ -112,7 +112,7 @@ fn read_field(bytes: &[u8]) -> Option<(u8, &[u8])> {
     Some((head[0], rest.get(..length)?))
 }
 
-fn field_of(tag: u8, value: &[u8]) -> Option<Field> {
+fn field_of(tag: u8, value: &[u8]) -> Option<Field<'_>> {
     match tag {
         NAME if !value.is_empty() && value.iter().all(|&byte| is_word_byte(byte)) => {
             std::str::from_utf8(value).ok().map(Field::Name)

@@ -3,6 +3,7 @@ pub mod KnownAshFrames
 pub mod KnownChecks
 pub mod KnownDamage
 pub mod KnownDamagedFrames
+pub mod KnownPlaces
 pub mod KnownLists
 pub mod KnownRuns
 pub mod KnownValues

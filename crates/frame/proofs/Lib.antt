@@ -20,3 +20,4 @@ pub mod FollowLaws
 pub mod BrokenLaws
 pub mod FaultPlaces
 pub mod RunPlaces
+pub mod PlaceCalls

@@ -31,6 +31,7 @@ pub mod LastAcceptedLaws
 pub mod NamedRows
 pub mod CurrentWhen
 pub mod RefusedFrames
+pub mod BrokenFrames
 pub mod ShortCalls
 pub mod RefusedPackets
 pub mod DamagedFrames

@@ -44,7 +44,7 @@ record Kept (l : Ledger) (n place : ℕ) (frame : Option (List ℕ)) : Type 0 wh
   sequence : effectOf l frame .ledger .line .sequence ≡ l .line .sequence
 
 module _ (names : List (List ℕ)) (n place : ℕ) (l : Ledger) where
-  frame-refused : (f : Frame) → asAnswer names (closed l f .answer) ≡ Refused n place → f ≡ frames.refused n place
+  pub frame-refused : (f : Frame) → asAnswer names (closed l f .answer) ≡ Refused n place → f ≡ frames.refused n place
   frame-refused (frames.refused k at) e =
       let number : k ≡ n = cc in
       let there : at ≡ place = cc in

@@ -42,6 +42,10 @@ struct receiver {
     enum phase phase;
     unsigned fault;
     size_t length;
+    /* The offset of the last byte, counted from the last flag as 0; at a fault it stays. */
+    size_t place;
+    /* Where the last refused frame broke. */
+    size_t broke_at;
     uint8_t content[ARZNAVIK_CONTENT_MAX];
     int last;
     uint16_t new_frames, again, heard, unread;
@@ -142,25 +146,31 @@ static void take_data(struct receiver *receiver, uint8_t *reply, uint8_t *packet
         receiver->unread++;
 }
 
+static unsigned refused_at(struct receiver *receiver, unsigned refusal, size_t place)
+{
+    receiver->broke_at = place;
+    return refusal;
+}
+
 /* The refusal of the frame that a flag has closed, or 0. */
 static unsigned close_frame(struct receiver *receiver, uint8_t *reply, uint8_t *packet)
 {
     if (receiver->phase == ESCAPED)
-        return ARZNAVIK_BAD_FRAMING;
+        return refused_at(receiver, ARZNAVIK_BAD_FRAMING, receiver->place + 1);
     if (receiver->phase == FAULTY)
-        return receiver->fault;
+        return refused_at(receiver, receiver->fault, receiver->place);
     if (receiver->length < 4)
-        return ARZNAVIK_SHORT_CONTENT;
+        return refused_at(receiver, ARZNAVIK_SHORT_CONTENT, 0);
     if (CONTENT_CRC(ARZNAVIK_CRC_START, receiver->content, receiver->length) != 0)
-        return ARZNAVIK_BAD_CHECK;
+        return refused_at(receiver, ARZNAVIK_BAD_CHECK, receiver->length);
     if (receiver->content[0] == ARZNAVIK_TYPE_DATA) {
         take_data(receiver, reply, packet);
         return 0;
     }
     if (receiver->content[0] != ARZNAVIK_TYPE_ACKNOWLEDGEMENT)
-        return 5;
+        return refused_at(receiver, 5, 0);
     if (receiver->length != 4)
-        return 6;
+        return refused_at(receiver, 6, 0);
     receiver->heard++;
     return 0;
 }
@@ -175,6 +185,7 @@ static void take_byte(struct receiver *receiver, uint8_t byte)
 {
     if (receiver->phase == BEFORE || receiver->phase == FAULTY)
         return;
+    receiver->place++;
     if (receiver->phase == ESCAPED) {
         if (byte != 0x5d && byte != 0x5e) {
             refuse(receiver, ARZNAVIK_BAD_FRAMING);
@@ -209,6 +220,7 @@ static size_t receive(struct receiver *receiver, const uint8_t *piece, size_t le
             receiver->refused[refusal - 1]++;
         receiver->phase = PLAIN;
         receiver->length = 0;
+        receiver->place = 0;
         if (is_frame)
             return i + 1;
     }

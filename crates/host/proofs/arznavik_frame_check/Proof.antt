@@ -2,7 +2,7 @@
 use mathlib.Core.Path.{sym, ap, _∙_}
 use native.Mathlib.Omega.{arith}
 use lib.ListN.{length}
-use Rattle.frame.specs.Content.{payloadMax}
+use Rattle.frame.specs.Content.{payloadMax, Read}
 use Rattle.frame.specs.Stuffing.{sentMax}
 use Rattle.frame.specs.Reading.{readFrame}
 use Rattle.frame.proofs.FrameTheorems.{read-bounded}
@@ -18,15 +18,19 @@ read-frame-requires c κs = search needs
 enum-known-number : tie.Need-enum-known-number
 enum-known-number c = search needs
 
+abbrev start : tie.After-read-frame → tie.Start
+start c = c .before .before .before .before
+
+-- what was read, by the arguments of the call
+abbrev found : tie.After-read-frame → Read
+found c = readFrame (length (start c .args .output .now)) (start c .args .bytes .now)
+
 report-requires : tie.Need-report-requires
 report-requires c κs =
     let told = c .before in
-    let called = told .before .before .before .before in
-    let a = called .before .before .before .before .args in
-    let room = length (a .output .now) in
-    let bytes = a .bytes .now in
-    let answers = sym (told .number .given .1) ∙ called .read-frame .ensures .answers in
-    let small = read-place (readFrame room bytes) _ _ sentMax (λ n place. reader-place n place room bytes) answers in
+    let call = told .before .before .before .before in
+    let answers = sym (told .number .given .1) ∙ call .read-frame .ensures .answers in
+    let small = read-place (found call) _ _ sentMax (λ n place. reader-place n place _ _) answers in
     (omega arith, omega (arith, small))
 
 enum-known-kind : tie.Need-enum-known-kind
@@ -35,12 +39,9 @@ enum-known-kind c = search needs
 report-requires-2 : tie.Need-report-requires-2
 report-requires-2 c κs =
     let told = c .before in
-    let called = told .before .before .before .before in
-    let a = called .before .before .before .before .args in
-    let room = length (a .output .now) in
-    let bytes = a .bytes .now in
-    let answers = sym (told .kind .given .1) ∙ called .read-frame .ensures .answers in
-    let small = read-size (readFrame room bytes) _ _ _ payloadMax (read-bounded room bytes) answers in
+    let call = told .before .before .before .before in
+    let answers = sym (told .kind .given .1) ∙ call .read-frame .ensures .answers in
+    let small = read-size (found call) _ _ _ payloadMax (read-bounded _ _) answers in
     (omega (arith, small), omega arith)
 
 same-length : tie.Need-same-length

@@ -11,7 +11,7 @@ use Rattle.slices.specs.Put.{putAt}
 use Rattle.slices.proofs.Impossible.{impossible}
 use Rattle.slices.proofs.PutLaws.{length-put, put-first}
 use Rattle.frame.specs.Stuffing.{State, plain, escaped, escapes-next, stands-for, faulty, meaning, Unstuffed, content, refused, joined, contentMax, sentMax, unstuffFrom, unstuff}
-use Rattle.frame.specs.ReaderSteps.{numberWorth, readersAnswer, ReadersAs, unstuffAnswer, UnstuffsAs}
+use Rattle.frame.specs.ReaderSteps.{placeLimit, readersAnswer, ReadersAs, unstuffAnswer, UnstuffsAs}
 use Rattle.frame.specs.declared.unstuffing.Unstuffed.the-variants as answer
 use Rattle.frame.proofs.BoundLaws.{unstuff-bounded}
 use Rattle.frame.proofs.RefusalLaws.{refused-number}
@@ -33,7 +33,7 @@ stored (refused n place) v held array r exit u =
     record { answers = u .answers; array-filled = λ c₁ e. impossible cc }
 
 -- a refusal says nothing of the array
-stopped : (n place held : ℕ) (array : List ℕ) → ReadersAs (refused n place) held array (n * numberWorth + place) array
+stopped : (n place held : ℕ) (array : List ℕ) → ReadersAs (refused n place) held array (n * placeLimit + place) array
 stopped n place held array = record { answers = refl; array-filled = λ c₁ e. impossible cc }
 
 -- at the closing flag, out of the escaped state, the content is whole
@@ -51,7 +51,7 @@ module _ (sent : List ℕ) (count at held : ℕ) (array : List ℕ) where
   pub ends-plain : count ≤ at → ReadersAs (found plain held at) held array held array
   ends-plain h = rw (unstuff-end plain held sent count at h) (ended held array)
 
-  pub ends-escaped : count ≤ at → ReadersAs (found escaped held at) held array (badFraming * numberWorth + (at + 1)) array
+  pub ends-escaped : count ≤ at → ReadersAs (found escaped held at) held array (badFraming * placeLimit + (at + 1)) array
   ends-escaped h = rw (unstuff-end escaped held sent count at h) (stopped badFraming (at + 1) held array)
 
   -- by what the byte there means
@@ -60,7 +60,7 @@ module _ (sent : List ℕ) (count at held : ℕ) (array : List ℕ) where
         → ReadersAs (found escaped held (at + 1)) held array r exit → ReadersAs (found s held at) held array r exit
     reads-escape e r exit u = rw (unstuff-escape s held sent count at fits h e) u
 
-    pub reads-fault : meaning s (getD sent at 0) ≡ faulty → ReadersAs (found s held at) held array (badFraming * numberWorth + (at + 1)) array
+    pub reads-fault : meaning s (getD sent at 0) ≡ faulty → ReadersAs (found s held at) held array (badFraming * placeLimit + (at + 1)) array
     reads-fault e = rw (unstuff-fault s held sent count at fits h e) (stopped badFraming (at + 1) held array)
 
     pub reads-byte : (v : ℕ) → meaning s (getD sent at 0) ≡ stands-for v → held < contentMax → (r : ℕ) (exit : List ℕ)
@@ -68,7 +68,7 @@ module _ (sent : List ℕ) (count at held : ℕ) (array : List ℕ) where
     reads-byte v e room r exit u = rw (unstuff-byte s held sent count at fits h v e room) (stored _ v held array r exit u)
 
     pub reads-full : (v : ℕ) → meaning s (getD sent at 0) ≡ stands-for v → contentMax ≤ held
-        → ReadersAs (found s held at) held array (longContent * numberWorth + (at + 1)) array
+        → ReadersAs (found s held at) held array (longContent * placeLimit + (at + 1)) array
     reads-full v e full = rw (unstuff-full s held sent count at fits h v e full) (stopped longContent (at + 1) held array)
 
 -- what the readers did with the bytes that were copied, said of the whole run
@@ -78,9 +78,9 @@ pub copied : (run zeros sent : List ℕ) (count : ℕ) (array : List ℕ) (r : �
 copied run zeros sent count array r exit full put counted u =
     rw (put, counted, sent-enough run zeros full) at u
 
--- their number told as an enum: a length of content, or from one refusal's worth on a refusal's number and place
+-- their number told as an enum: under the limit of places it is a length of content, from there on a refusal's number and place
 module _ (run array : List ℕ) (r : ℕ) (exit : List ℕ) (u : ReadersAs (unstuff run) 0 array r exit) where
-  pub told-content : r < numberWorth → UnstuffsAs (unstuff run) array (answer.Content r) exit
+  pub told-content : r < placeLimit → UnstuffsAs (unstuff run) array (answer.Content r) exit
   unfolding unstuff
   told-content within =
       record { answers = cases (unstuffFrom plain 0 0 run) refl (u .answers); array-filled = u .array-filled }
@@ -92,25 +92,25 @@ module _ (run array : List ℕ) (r : ℕ) (exit : List ℕ) (u : ReadersAs (unst
       cases (refused m place) e told = absurd (omega (arith, refused-number plain 0 0 run m place e .0))
 
   -- a refusal's number fits a byte
-  pub number-fits : r / numberWorth < 256
+  pub number-fits : r / placeLimit < 256
   unfolding unstuff
   number-fits = cases (unstuffFrom plain 0 0 run) refl (u .answers)
     where
-      cases : (found : Unstuffed) → unstuffFrom plain 0 0 run ≡ found → r ≡ readersAnswer 0 found → r / numberWorth < 256
+      cases : (found : Unstuffed) → unstuffFrom plain 0 0 run ≡ found → r ≡ readersAnswer 0 found → r / placeLimit < 256
       cases (content c) e told = omega (arith, unstuff-bounded plain 0 0 run c (omega arith) e)
       cases (refused m place) e told = omega (arith, refused-number plain 0 0 run m place e .1, place-within run m place e)
 
-  pub told-refusal : numberWorth ≤ r → UnstuffsAs (unstuff run) array (answer.Refused (r / numberWorth) (r % numberWorth)) exit
+  pub told-refusal : placeLimit ≤ r → UnstuffsAs (unstuff run) array (answer.Refused (r / placeLimit) (r % placeLimit)) exit
   unfolding unstuff
   told-refusal above = cases (unstuffFrom plain 0 0 run) refl (u .answers)
     where
       cases : (found : Unstuffed) → unstuffFrom plain 0 0 run ≡ found → r ≡ readersAnswer 0 found
-          → UnstuffsAs found array (answer.Refused (r / numberWorth) (r % numberWorth)) exit
+          → UnstuffsAs found array (answer.Refused (r / placeLimit) (r % placeLimit)) exit
       cases (content c) e told = absurd (omega (arith, unstuff-bounded plain 0 0 run c (omega arith) e))
       cases (refused m place) e told =
           let within = place-within run m place e in
-          let number : r / numberWorth ≡ m = omega (arith, within) in
-          let there : r % numberWorth ≡ place = omega (arith, within) in
+          let number : r / placeLimit ≡ m = omega (arith, within) in
+          let there : r % placeLimit ≡ place = omega (arith, within) in
           record { answers = ap₂ answer.Refused number there; array-filled = λ c f. impossible cc }
 
 -- what the enum says of the run: a refusal, or content, which then stands in the array

@@ -7,14 +7,14 @@ use Rattle.slices.specs.Put.{putAt}
 use Rattle.frame.specs.Stuffing as stuffing
 use Rattle.frame.specs.declared.unstuffing.Unstuffed as declared
 
--- a refusal's number is worth so much in the readers' answer: more than any place and any length of content
-abbrev pub numberWorth : ℕ
-numberWorth = 1024
+-- above any place and any length of content
+abbrev pub placeLimit : ℕ
+placeLimit = 1024
 
--- how much content there is with the bytes held before, or a refusal's number and place
+-- how much content there is with the bytes held before, or a refusal's number times that, and its place
 abbrev pub readersAnswer : ℕ → stuffing.Unstuffed → ℕ
 readersAnswer held (stuffing.content c) = held + length c
-readersAnswer held (stuffing.refused n place) = n * numberWorth + place
+readersAnswer held (stuffing.refused n place) = n * placeLimit + place
 
 -- What was unstuffed behind `held` bytes of content is answered, and stands in the array where it is no refusal. What a refused
 -- frame leaves in that array of the reader's own is open.

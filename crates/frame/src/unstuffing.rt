@@ -15,12 +15,13 @@ ghost use lib.ListN.{length, take, drop};
 ghost use Rattle.frame.specs.Stuffing.{sentMax, plain, escaped, unstuffFrom, unstuff};
 ghost use Rattle.frame.specs.ReaderSteps.{ReadersAs, UnstuffsAs};
 
-// The readers answer a length of content, or a refusal: its number, each worth so much, and its place.
-const NUMBER_WORTH: usize = 1024;
+// Above any place and any length of content. The readers answer such a length, or a refusal's number
+// times this, and its place.
+const PLACE_LIMIT: usize = 1024;
 
-const FRAMING_FAULT: usize = BAD_FRAMING as usize * NUMBER_WORTH;
+const FRAMING_FAULT: usize = BAD_FRAMING as usize * PLACE_LIMIT;
 
-const LENGTH_FAULT: usize = LONG_CONTENT as usize * NUMBER_WORTH;
+const LENGTH_FAULT: usize = LONG_CONTENT as usize * PLACE_LIMIT;
 
 // What sent bytes turned out to be: so many bytes of content, or a refusal's number and its place,
 // counted in sent bytes from the opening flag as 0.
@@ -38,11 +39,11 @@ pub(crate) fn unstuff(run: &[u8], content: &mut [u8; CONTENT_MAX]) -> Unstuffed
     slices::put(&mut sent, 0, run);
     let count = sent_count(run.len());
     let answer = read_plain(&sent, count, 0, content, 0);
-    if answer < NUMBER_WORTH {
+    if answer < PLACE_LIMIT {
         return Unstuffed::Content(answer);
     }
-    let number = (answer / NUMBER_WORTH) as u8;
-    let place = answer % NUMBER_WORTH;
+    let number = (answer / PLACE_LIMIT) as u8;
+    let place = answer % PLACE_LIMIT;
     Unstuffed::Refused { number, place }
 }
 

@@ -7,7 +7,7 @@ use native.Mathlib.Omega.{arith}
 use lib.ListN.{take, drop, getD}
 use Rattle.refusals.specs.Numbers.{badFraming}
 use Rattle.frame.specs.Stuffing.{escapedFlag, escapedEscape, plain, escaped, unstuffFrom}
-use Rattle.frame.specs.ReaderSteps.{numberWorth, ReadersAs}
+use Rattle.frame.specs.ReaderSteps.{placeLimit, ReadersAs}
 use Rattle.frame.proofs.UnstuffLaws.{plain-escape, plain-byte, escaped-byte, escaped-fault}
 use Rattle.frame.proofs.ReadersLaws.{ends-plain, ends-escaped, reads-escape, reads-fault, reads-byte, reads-full}
 use borrow.Fn.Kinds.{In}
@@ -110,7 +110,7 @@ read-escaped-fault : (t : ℕ) (left : read-escaped-lts.Else1 (read-escaped-clai
     → let a = left .before .args in
     let b = getD (a .sent .now) (a .at) 0 in
     (b ≡ escapedFlag → ⊥) → (b ≡ escapedEscape → ⊥)
-    → ReadersAs (unstuffFrom escaped (a .held) (a .at) (drop (a .at) (take (a .count) (a .sent .now)))) (a .held) (a .content .now) (badFraming * numberWorth + (a .at + 1)) (a .content .now)
+    → ReadersAs (unstuffFrom escaped (a .held) (a .at) (drop (a .at) (take (a .count) (a .sent .now)))) (a .held) (a .content .now) (badFraming * placeLimit + (a .at + 1)) (a .content .now)
 read-escaped-fault t left no-flag no-escape =
     let a = left .before .args in
     reads-fault (a .sent .now) (a .count) (a .at) (a .held) (a .content .now) escaped (left .before .pre .1 .1 .1) (left .if1 .left) (escaped-fault _ no-flag no-escape)

@@ -44,8 +44,8 @@ struct receiver {
     size_t length;
     /* The offset of the last byte, counted from the last flag as 0; at a fault it stays. */
     size_t place;
-    /* Where the last refused frame broke. */
-    size_t broke_at;
+    /* Where the last refused frame broke. Nothing here reads it, so it is kept by force. */
+    volatile size_t broke_at;
     uint8_t content[ARZNAVIK_CONTENT_MAX];
     int last;
     uint16_t new_frames, again, heard, unread;

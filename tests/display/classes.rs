@@ -7,7 +7,7 @@ use crate::receiver::{Answer, Call, Refusal};
 
 /// More bytes than any frame has, and more than 16 bits count.
 const MANY: usize = 1_000;
-const COUNTLESS: usize = 0xffff;
+const PAST_16_BITS: usize = 0xffff;
 
 #[derive(Clone, Copy, Debug, PartialEq, Eq)]
 pub enum Class {
@@ -28,7 +28,7 @@ pub enum Class {
     ByteByByte(u8),
     /// So many bytes came behind the fault.
     ManyBehind(u8),
-    CountlessBehind(u8),
+    Past16BitsBehind(u8),
     /// A tick, or a call with short buffers, came inside the frame.
     TickInside(u8),
     ShortCallInside(u8),
@@ -68,7 +68,7 @@ impl Class {
             .chain(PLACED.map(Class::TickInside))
             .chain(PLACED.map(Class::ShortCallInside))
             .chain(FAULTS.map(Class::ManyBehind))
-            .chain(FAULTS.map(Class::CountlessBehind))
+            .chain(FAULTS.map(Class::Past16BitsBehind))
     }
 
     fn of_answer(answer: &Answer) -> Class {
@@ -149,7 +149,7 @@ impl Cut {
         let kinds = [
             is_cut.then_some(Class::CutBehindEscape(place)),
             (behind > MANY).then_some(Class::ManyBehind(number)),
-            (behind > COUNTLESS).then_some(Class::CountlessBehind(number)),
+            (behind > PAST_16_BITS).then_some(Class::Past16BitsBehind(number)),
         ];
         kinds.into_iter().flatten().collect()
     }

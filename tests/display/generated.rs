@@ -203,7 +203,7 @@ fn bad_escape(random: &mut Random) -> Vec<u8> {
     between
 }
 
-/// Content of 386 to 389 bytes, and behind it nothing, a pair, a bad one or many bytes.
+/// Content of 387 to 389 bytes, and behind it nothing, a pair, a bad one or many bytes.
 fn about_the_limit(random: &mut Random) -> Vec<u8> {
     let content = CONTENT_MAX + random.one_of(&[0, 1, 1, 1, 2]);
     let mut between = any_pairs(random, content);

@@ -1,5 +1,6 @@
-//! The two directions, and the line in a history. Only the form of fields is tested here: what a name may be, and that names
-//! stand first, is for `replay` to judge, so that a broken list can be tried too.
+//! The two directions, and the line in a history. Only the form of fields is tested here: what a name
+//! may be, and that names stand first, is for `replay` to judge, so that a broken list can be tried
+//! too.
 
 const FIELD_MAX: usize = 4096;
 const NAME: u8 = 1;

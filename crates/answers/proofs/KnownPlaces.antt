@@ -47,10 +47,19 @@ pub record LimitPlaces : Type 0 where
   pub all-pairs : Refuses (betweenFlags (stuff (replicate 388 0x7e))) 2 776
   pub escape-and-bad-byte : Refuses (betweenFlags (full ++ (0x7d ∷ 0x41 ∷ []))) 1 389
   pub escape-and-flag : Refuses (betweenFlags (full ++ (0x7d ∷ []))) 1 389
+  pub escape-behind-pairs : Refuses (betweenFlags (stuff (replicate 387 0x7e) ++ (0x7d ∷ []))) 1 776
 
 pub limit-places : LimitPlaces
 unfolding frame-steps readFrame flaggedBytes firstFlag
-limit-places = record { plain-byte = refl; pair = refl; all-pairs = refl; escape-and-bad-byte = refl; escape-and-flag = refl }
+limit-places =
+    record {
+      plain-byte = refl;
+      pair = refl;
+      all-pairs = refl;
+      escape-and-bad-byte = refl;
+      escape-and-flag = refl;
+      escape-behind-pairs = refl;
+    }
 
 -- 4 has the content's length, check included, whatever was escaped; 3 and 7 have place 0
 pub record CheckPlaces : Type 0 where

@@ -12,9 +12,9 @@ pub struct Display {
     pub board: Board,
 }
 
-// What a piece brought: no frame; a refusal's number and its place; the sequence of an acknowledgement; the length
-// of the reply to a data frame that came again; or the lengths of a new one's reply and payload, and
-// what the board read in it.
+// What a piece brought: no frame; a refusal's number and its place; the sequence of an
+// acknowledgement; the length of the reply to a data frame that came again; or the lengths of a new
+// one's reply and payload, and what the board read in it.
 pub enum Answer {
     Nothing,
     Refused {

@@ -64,10 +64,10 @@ module _ (run out : List ℕ) (answer : FrameRead) (after : List ℕ) (r : Reads
   check-told place b = answered ∙ ap readAnswer (check-read run place b)
 
 -- other refusals than 1, 2 and 4 have place 0, whatever the bytes
-read-elsewhere : (room : ℕ) (bytes : List ℕ) (n place : ℕ) → readFrame room bytes ≡ refused n place
+pub other-place : (room : ℕ) (bytes : List ℕ) (n place : ℕ) → readFrame room bytes ≡ refused n place
     → (n ≡ badFraming → ⊥) → (n ≡ longContent → ⊥) → (n ≡ badCheck → ⊥) → place ≡ noPlace
 unfolding readFrame
-read-elsewhere room bytes n place e one two four = cases (ltb room payloadMax) (flaggedBytes bytes) e
+other-place room bytes n place e one two four = cases (ltb room payloadMax) (flaggedBytes bytes) e
   where
     cases : (t u : Bool) → cond t (refused shortOutput noPlace) (cond u (readRun (between bytes)) (refused badFraming noPlace)) ≡ refused n place → place ≡ noPlace
     cases true u e = let none : place ≡ noPlace = cc in none
@@ -75,7 +75,7 @@ read-elsewhere room bytes n place e one two four = cases (ltb room payloadMax) (
     cases false false e = let none : place ≡ noPlace = cc in none
 
 -- THEOREM (02, C-16). Whatever the bytes and the output: other refusals of a call of `read_frame` give place 0.
-pub told-elsewhere : (bytes out after : List ℕ) (n place : ℕ) → Reads bytes out (read.Refused n place) after
+pub others-told : (bytes out after : List ℕ) (n place : ℕ) → Reads bytes out (read.Refused n place) after
     → (n ≡ badFraming → ⊥) → (n ≡ longContent → ⊥) → (n ≡ badCheck → ⊥) → place ≡ noPlace
-told-elsewhere bytes out after n place r =
-    read-elsewhere (length out) bytes n place (answer-refused (readFrame (length out) bytes) n place (was-read r .answers))
+others-told bytes out after n place r =
+    other-place (length out) bytes n place (answer-refused (readFrame (length out) bytes) n place (was-read r .answers))

@@ -12,9 +12,9 @@ use Rattle.slices.proofs.Impossible.{impossible}
 use Rattle.refusals.specs.Numbers.{badFraming, longContent, badCheck, unknownType, loadedAcknowledgement}
 use Rattle.frame.specs.Content as content
 use Rattle.frame.specs.Content.{noPlace}
-use Rattle.frame.specs.Places.{Places}
+use Rattle.frame.specs.Places.{BadEscape, PassesLimit, FailsCheck, Places}
 use Rattle.frame.specs.Reading.{readRun}
-use Rattle.frame.proofs.RunPlaces.{run-places}
+use Rattle.frame.proofs.RunPlaces.{run-places, escape-read, limit-read, check-read}
 use Rattle.display.specs.declared.Answer.{Answer}
 use Rattle.display.specs.declared.Answer.the-variants.{Refused}
 use Rattle.display.specs.declared.Display.{Display}
@@ -94,18 +94,29 @@ broken-frame names w listed d begins cs left end chain bytes reply packet r p n 
     let said : asAnswer names (effectOf (withRun l (t .run)) (t .frame) .answer) ≡ Refused n place = cc in
     effect-broken names (withRun l (t .run)) (l .line .run) bytes n place said
 
--- THEOREM (02, C-16). And a frame that is refused at a place, when the next call with room closes it, is answered so.
-pub broken-told : (names : List (List ℕ)) (w : WatchList) → namesIn w ≡ some names → (d : Display) → Begins w d
-    → (cs : List Call) (left : List Left) (end : Display) → Chain d cs left end
-    → (bytes reply packet : List ℕ) → replyRoom ≤ length reply → packetRoom ≤ length packet
-    → (run : List ℕ) → taken (after (start names) cs .line .run) bytes 0 .frame ≡ some run → (n place : ℕ) → readRun run ≡ content.refused n place
-    → (count : ℕ) (answer : Answer) (reply₁ packet₁ : List ℕ) (end₁ : Display)
-    → Chain end (piece bytes reply packet ∷ []) (took count answer reply₁ packet₁ ∷ []) end₁ → answer ≡ Refused n place
-unfolding frameOf
-broken-told names w listed d begins cs left end chain bytes reply packet r p run closed n place broke count answer reply₁ packet₁ end₁ next =
-    let l = after (start names) cs in
-    let t = taken (l .line .run) bytes 0 in
-    let a = agreeing listed begins chain in
-    let gave = next-call a next .gives ∙ ap (λ (s : calls.Step). asLeft names (s .given)) (with-room l bytes reply packet r p) in
-    let said : answer ≡ asAnswer names (effectOf (withRun l (t .run)) (t .frame) .answer) = cc in
-    said ∙ ap (λ (frame : Option (List ℕ)). asAnswer names (effectOf (withRun l (t .run)) frame .answer)) closed ∙ rw broke
+-- the next call with room, after every list of calls, and the run of the frame that it closes
+module _ (names : List (List ℕ)) (w : WatchList) (listed : namesIn w ≡ some names) (d : Display) (begins : Begins w d)
+    (cs : List Call) (left : List Left) (end : Display) (chain : Chain d cs left end)
+    (bytes reply packet : List ℕ) (r : replyRoom ≤ length reply) (p : packetRoom ≤ length packet)
+    (run : List ℕ) (closed : taken (after (start names) cs .line .run) bytes 0 .frame ≡ some run)
+    (count : ℕ) (answer : Answer) (reply₁ packet₁ : List ℕ) (end₁ : Display)
+    (next : Chain end (piece bytes reply packet ∷ []) (took count answer reply₁ packet₁ ∷ []) end₁) where
+  answered : (n place : ℕ) → readRun run ≡ content.refused n place → answer ≡ Refused n place
+  unfolding frameOf
+  answered n place broke =
+      let l = after (start names) cs in
+      let t = taken (l .line .run) bytes 0 in
+      let a = agreeing listed begins chain in
+      let gave = next-call a next .gives ∙ ap (λ (s : calls.Step). asLeft names (s .given)) (with-room l bytes reply packet r p) in
+      let said : answer ≡ asAnswer names (effectOf (withRun l (t .run)) (t .frame) .answer) = cc in
+      said ∙ ap (λ (frame : Option (List ℕ)). asAnswer names (effectOf (withRun l (t .run)) frame .answer)) closed ∙ rw broke
+
+  -- THEOREM (02, C-16). A frame that broke at a place is answered with that place.
+  pub escape-answered : (place : ℕ) → BadEscape run place → answer ≡ Refused badFraming place
+  escape-answered place b = answered badFraming place (escape-read run place b)
+
+  pub limit-answered : (place : ℕ) → PassesLimit run place → answer ≡ Refused longContent place
+  limit-answered place b = answered longContent place (limit-read run place b)
+
+  pub check-answered : (place : ℕ) → FailsCheck run place → answer ≡ Refused badCheck place
+  check-answered place b = answered badCheck place (check-read run place b)

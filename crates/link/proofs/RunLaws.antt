@@ -78,13 +78,12 @@ abbrev Counted : State → ℕ → ℕ → Type 0
 Counted plain held place = (held ≤ contentMax) × (place ≤ 2 * held)
 Counted escaped held place = (held ≤ contentMax) × (place ≤ 2 * held + 1)
 
+met-before : (s : State) (held place : ℕ) → Counted s held place → place < sentMax
+met-before plain held place h = let most = h .0 in let counted = h .1 in omega arith
+met-before escaped held place h = let most = h .0 in let counted = h .1 in omega arith
+
 counts-on : (s : State) (held place : ℕ) → Counted s held place → nextPlace place ≡ suc place
-counts-on plain held place h =
-    let before : place < sentMax = let most = h .0 in let counted = h .1 in omega arith in
-    rw (lt-ltb place sentMax before)
-counts-on escaped held place h =
-    let before : place < sentMax = let most = h .0 in let counted = h .1 in omega arith in
-    rw (lt-ltb place sentMax before)
+counts-on s held place h = rw (lt-ltb place _ (met-before s held place h))
 
 -- content behind the bytes seen before
 abbrev pub behind : List ℕ → Unstuffed → Unstuffed

@@ -34,8 +34,9 @@ pub struct Link {
     pub counts: Counts,
 }
 
-// What a call brought: no frame; a refusal's number and its place; the sequence of an acknowledgement; the length
-// of the reply to a data frame that came again; or the lengths of a new one's reply and payload.
+// What a call brought: no frame; a refusal's number and its place; the sequence of an
+// acknowledgement; the length of the reply to a data frame that came again; or the lengths of a new
+// one's reply and payload.
 pub enum Answer {
     Nothing,
     Refused { number: u8, place: usize },

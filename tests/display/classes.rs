@@ -2,7 +2,7 @@
 
 use crate::board::Reading;
 use crate::frame::{Refused, FLAG};
-use crate::places::Place;
+use crate::places::{Place, AFTER_ESCAPE};
 use crate::receiver::{Answer, Call, Refusal};
 
 /// More bytes than any frame has, and more than 16 bits count.
@@ -37,16 +37,6 @@ pub enum Class {
 /// Refusals that have a place, and those of them whose fault may have bytes behind it.
 const PLACED: [u8; 3] = [1, 2, 4];
 const FAULTS: [u8; 2] = [1, 2];
-
-const AFTER_ESCAPE: [Place; 7] = [
-    Place::EscapeThenByte,
-    Place::EscapeThenEscape,
-    Place::EscapeThenFlag,
-    Place::LastEscapeThenByte,
-    Place::LastEscapeThenEscape,
-    Place::LastEscapeThenFlag,
-    Place::PassedByPair,
-];
 
 impl Class {
     pub fn all() -> impl Iterator<Item = Class> {

@@ -22,14 +22,14 @@ pub enum Place {
     Both(u8, u8),
 }
 
-const ALONE: [Place; 8] = [
+/// Those at which an escape stands right before the byte.
+pub const AFTER_ESCAPE: [Place; 7] = [
     Place::EscapeThenByte,
     Place::EscapeThenEscape,
     Place::EscapeThenFlag,
     Place::LastEscapeThenByte,
     Place::LastEscapeThenEscape,
     Place::LastEscapeThenFlag,
-    Place::PassedByByte,
     Place::PassedByPair,
 ];
 
@@ -42,7 +42,8 @@ impl Place {
     pub fn all() -> impl Iterator<Item = Place> {
         let ends = ENDS.map(|(number, place)| Place::End(number, place));
         let both = BOTH.map(|(first, second)| Place::Both(first, second));
-        ALONE.into_iter().chain(ends).chain(both)
+        let alone = AFTER_ESCAPE.into_iter().chain([Place::PassedByByte]);
+        alone.chain(ends).chain(both)
     }
 
     /// What stands at the place of a refusal 1 or 2, which is behind an escape or passes the limit.

@@ -21,7 +21,7 @@ joined-prefixed : (v : ℕ) (c : List ℕ) (found : Unstuffed) → joined v (pre
 joined-prefixed v c (content d) = refl
 joined-prefixed v c (refused n place) = refl
 
-prefixed-none : (found : Unstuffed) → found ≡ prefixed [] found
+pub prefixed-none : (found : Unstuffed) → found ≡ prefixed [] found
 prefixed-none (content d) = refl
 prefixed-none (refused n place) = refl
 

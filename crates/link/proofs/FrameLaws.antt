@@ -1,6 +1,6 @@
 -- The flag behind a run that held bytes does what 01 says of the run: unstuffed from the left and tested by 1 to 6. One byte is
 -- enough for a frame.
-use mathlib.Core.Path.{_≡_, refl, ap, subst⁻¹, _∙_}
+use mathlib.Core.Path.{_≡_, refl, sym, ap, subst⁻¹, _∙_}
 use mathlib.Core.Bool.{Bool, true, false, cond}
 use mathlib.Core.List.{List, [], _∷_, _++_}
 use Prim.Native.Nat.{ℕ, _≤_, _<_}
@@ -9,8 +9,9 @@ use lib.Dec.{ltb}
 use lib.ListN.{length, length-append}
 use lib.Seq.{take-all}
 use borrow.Author.Tests.{ne-eqb}
-use Rattle.frame.specs.Stuffing.{contentMax, plain, escaped, Meaning, escapes-next, stands-for, faulty, meaning, Unstuffed, content, refused, unstuffFrom, unstuff}
+use Rattle.frame.specs.Stuffing.{contentMax, plain, escaped, Meaning, escapes-next, stands-for, faulty, meaning, Unstuffed, unstuffFrom, unstuff}
 use Rattle.frame.specs.Reading.{judgedContent, readRun}
+use Rattle.frame.proofs.FollowLaws.{prefixed-none}
 use Rattle.link.specs.declared.counts.Counts.{Counts}
 use Rattle.link.specs.declared.reader.Phase.{Phase}
 use Rattle.link.specs.declared.reader.Phase.the-variants.{Before, Plain, Escaped, BadFraming, LongContent}
@@ -18,7 +19,7 @@ use Rattle.link.specs.declared.receiver.Last.{Last}
 use Rattle.link.specs.Reader.{nextPlace, stepOf}
 use Rattle.link.specs.Closing.{readOutcome, frameOutcome}
 use Rattle.link.specs.Seen.{Seen, nothingSeen, seenAfter, seenRun, closeSeen}
-use Rattle.link.proofs.RunLaws.{unstuffedIn, seenBy, seen-by, behind, run-unstuffed}
+use Rattle.link.proofs.RunLaws.{unstuffedIn, seenBy, seen-by, run-unstuffed}
 
 -- where the flag behind it closes a frame: any phase within a frame, with a byte of content where it is plain
 abbrev Holds : Phase → ℕ → Type 0
@@ -91,8 +92,4 @@ run-close b bs previous before =
     let s = seenRun nothingSeen (b ∷ bs) in
     close-held (s .phase) (s .bytes) (s .place) previous before (run-holds nothingSeen b bs tt)
     ∙ ap (λ (found : Unstuffed). readOutcome (judgedContent found) previous before)
-    (run-unstuffed plain [] 0 (b ∷ bs) (omega arith, omega arith) ∙ whole (unstuffFrom plain 0 0 (b ∷ bs)))
-  where
-    whole : (found : Unstuffed) → behind [] found ≡ found
-    whole (content c) = refl
-    whole (refused n place) = refl
+    (run-unstuffed plain [] 0 (b ∷ bs) (omega arith, omega arith) ∙ sym (prefixed-none (unstuffFrom plain 0 0 (b ∷ bs))))

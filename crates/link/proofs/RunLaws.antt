@@ -11,6 +11,7 @@ use borrow.Author.Tests.{ltb-true, lt-ltb}
 use Rattle.slices.proofs.Impossible.{impossible}
 use Rattle.refusals.specs.Numbers.{badFraming, longContent}
 use Rattle.frame.specs.Stuffing.{contentMax, sentMax, State, plain, escaped, Meaning, escapes-next, stands-for, faulty, meaning, Unstuffed, content, refused, joined, taken, unstuffFrom}
+use Rattle.frame.proofs.FollowLaws.{prefixed}
 use Rattle.frame.proofs.SentLaws.{no-escape}
 use Rattle.link.specs.declared.reader.Phase.{Phase}
 use Rattle.link.specs.declared.reader.Phase.the-variants.{Before, Plain, Escaped, BadFraming, LongContent}
@@ -85,25 +86,21 @@ met-before escaped held place h = let most = h .0 in let counted = h .1 in omega
 counts-on : (s : State) (held place : ℕ) → Counted s held place → nextPlace place ≡ suc place
 counts-on s held place h = rw (lt-ltb place _ (met-before s held place h))
 
--- content behind the bytes seen before
-abbrev pub behind : List ℕ → Unstuffed → Unstuffed
-behind bytes (content c) = content (bytes ++ c)
-behind bytes (refused n place) = refused n place
-
-behind-joined : (bytes : List ℕ) (v : ℕ) (found : Unstuffed) → behind (bytes ++ (v ∷ [])) found ≡ behind bytes (joined v found)
-behind-joined bytes v (content c) = ap content (append-assoc bytes (v ∷ []) c)
-behind-joined bytes v (refused n place) = refl
+-- one byte more of content in front of what the rest gives
+prefixed-joined : (bytes : List ℕ) (v : ℕ) (found : Unstuffed) → prefixed (bytes ++ (v ∷ [])) found ≡ prefixed bytes (joined v found)
+prefixed-joined bytes v (content c) = ap content (append-assoc bytes (v ∷ []) c)
+prefixed-joined bytes v (refused n place) = refl
 
 -- what is seen of a run behind some bytes is what unstuffing it gives behind them
 abbrev SeenAs : State → List ℕ → ℕ → List ℕ → Type 0
 SeenAs s bytes place bs =
-    unstuffedSeen (seenRun (record { phase = phaseOf s; bytes = bytes; place = place }) bs) ≡ behind bytes (unstuffFrom s (length bytes) place bs)
+    unstuffedSeen (seenRun (record { phase = phaseOf s; bytes = bytes; place = place }) bs) ≡ prefixed bytes (unstuffFrom s (length bytes) place bs)
 
 module _ (bytes : List ℕ) (place : ℕ) (bs : List ℕ)
     (rest : (s : State) (bytes₁ : List ℕ) → Counted s (length bytes₁) (suc place) → SeenAs s bytes₁ (suc place) bs) where
   byte-seen : (v : ℕ) → place ≤ 2 * length bytes + 1
       → unstuffedSeen (seenRun (seenBy (stands-for v) bytes (suc place)) bs)
-      ≡ behind bytes (taken (stands-for v) (length bytes) (suc place) (λ s held. unstuffFrom s held (suc place) bs))
+      ≡ prefixed bytes (taken (stands-for v) (length bytes) (suc place) (λ s held. unstuffFrom s held (suc place) bs))
   byte-seen v counted = cases (ltb (length bytes) contentMax) refl
     where
       cases : (t : Bool) → ltb (length bytes) contentMax ≡ t
@@ -111,17 +108,17 @@ module _ (bytes : List ℕ) (place : ℕ) (bs : List ℕ)
           (seenRun
           (cond t (record { phase = Plain; bytes = bytes ++ (v ∷ []); place = suc place }) (record { phase = LongContent; bytes = bytes; place = suc place }))
           bs)
-          ≡ behind bytes (cond t (joined v (unstuffFrom plain (suc (length bytes)) (suc place) bs)) (refused longContent (suc place)))
+          ≡ prefixed bytes (cond t (joined v (unstuffFrom plain (suc (length bytes)) (suc place) bs)) (refused longContent (suc place)))
       cases true room =
           let one : length (bytes ++ (v ∷ [])) ≡ suc (length bytes) = length-append bytes (v ∷ []) ∙ omega arith in
           let most = ltb-true (length bytes) contentMax room in
           rest plain (bytes ++ (v ∷ [])) (omega (arith, one), omega (arith, one))
-          ∙ ap (λ (n : ℕ). behind (bytes ++ (v ∷ [])) (unstuffFrom plain n (suc place) bs)) one
-          ∙ behind-joined bytes v (unstuffFrom plain (suc (length bytes)) (suc place) bs)
+          ∙ ap (λ (n : ℕ). prefixed (bytes ++ (v ∷ [])) (unstuffFrom plain n (suc place) bs)) one
+          ∙ prefixed-joined bytes v (unstuffFrom plain (suc (length bytes)) (suc place) bs)
       cases false full = ap unstuffedSeen (stays LongContent (λ held at b₁. refl) bytes (suc place) bs)
 
   meant-seen : (s : State) (m : Meaning) → (s ≡ escaped → m ≡ escapes-next → ⊥) → Counted s (length bytes) place
-      → unstuffedSeen (seenRun (seenBy m bytes (suc place)) bs) ≡ behind bytes (taken m (length bytes) (suc place) (λ s₁ held. unstuffFrom s₁ held (suc place) bs))
+      → unstuffedSeen (seenRun (seenBy m bytes (suc place)) bs) ≡ prefixed bytes (taken m (length bytes) (suc place) (λ s₁ held. unstuffFrom s₁ held (suc place) bs))
   meant-seen plain escapes-next once h = rest escaped bytes (h .0, let counted = h .1 in omega arith)
   meant-seen escaped escapes-next once h = absurd (once refl refl)
   meant-seen plain (stands-for v) once h = byte-seen v (let counted = h .1 in omega arith)

@@ -22,13 +22,12 @@ use Rattle.ledger.specs.Ledger.{Ledger, start}
 use Rattle.ledger.specs.Frames as frames
 use Rattle.ledger.specs.Frames.{dataType, acknowledgementType, Taken, taken, byType, frameOf}
 use Rattle.ledger.specs.Answers.{WatchList, namesIn, Call, piece}
-use Rattle.ledger.specs.Calls as calls
 use Rattle.ledger.specs.Calls.{effectOf, withRun, after, replyRoom, packetRoom}
-use Rattle.ledger.specs.Shown.{asAnswer, asLeft, Left, took}
+use Rattle.ledger.specs.Shown.{asAnswer, Left, took}
 use Rattle.ledger.proofs.Chain.{Begins, Chain}
-use Rattle.ledger.proofs.EveryList.{Agreeing, agreeing, next-call}
+use Rattle.ledger.proofs.EveryList.{agreeing}
 use Rattle.ledger.proofs.RefusedFrames.{frame-refused}
-use Rattle.ledger.proofs.RoomLaws.{with-room}
+use Rattle.ledger.proofs.ClosedCalls.{next-gives}
 
 -- refusals 5 and 6 have place 0
 no-place : (run : List ℕ) (number n place : ℕ) → (number ≡ badFraming → ⊥) → (number ≡ longContent → ⊥) → (number ≡ badCheck → ⊥)
@@ -90,7 +89,7 @@ broken-frame names w listed d begins cs left end chain bytes reply packet r p n 
     let l = after (start names) cs in
     let t = taken (l .line .run) bytes 0 in
     let a = agreeing listed begins chain in
-    let gave = next-call a next .gives ∙ ap (λ (s : calls.Step). asLeft names (s .given)) (with-room l bytes reply packet r p) in
+    let gave = next-gives a next r p in
     let said : asAnswer names (effectOf (withRun l (t .run)) (t .frame) .answer) ≡ Refused n place = cc in
     effect-broken names (withRun l (t .run)) (l .line .run) bytes n place said
 
@@ -107,7 +106,7 @@ module _ (names : List (List ℕ)) (w : WatchList) (listed : namesIn w ≡ some 
       let l = after (start names) cs in
       let t = taken (l .line .run) bytes 0 in
       let a = agreeing listed begins chain in
-      let gave = next-call a next .gives ∙ ap (λ (s : calls.Step). asLeft names (s .given)) (with-room l bytes reply packet r p) in
+      let gave = next-gives a next r p in
       let said : answer ≡ asAnswer names (effectOf (withRun l (t .run)) (t .frame) .answer) = cc in
       said ∙ ap (λ (frame : Option (List ℕ)). asAnswer names (effectOf (withRun l (t .run)) frame .answer)) closed ∙ rw broke
 

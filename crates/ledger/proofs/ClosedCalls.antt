@@ -2,9 +2,9 @@
 use mathlib.Core.Path.{_≡_, refl, sym, ap, _∙_}
 use mathlib.Core.List.{List, [], _∷_, _++_, map}
 use mathlib.Core.Option.{Option, some, none}
-use Prim.Native.Nat.{ℕ, _-_}
+use Prim.Native.Nat.{ℕ, _-_, _≤_}
 use native.Mathlib.Omega.{arith}
-use lib.ListN.{take}
+use lib.ListN.{length, take}
 use Rattle.slices.proofs.Impossible.{impossible}
 use Rattle.slices.specs.Put.{putAt}
 use Rattle.display.specs.declared.Display.{Display}
@@ -14,15 +14,16 @@ use Rattle.ledger.specs.Frames.{Frame, Taken, taken, frameOf}
 use Rattle.ledger.specs.Answers as given
 use Rattle.ledger.specs.Answers.{Call, piece}
 use Rattle.ledger.specs.Calls as calls
-use Rattle.ledger.specs.Calls.{closed, withRun, pieceStep, step, after}
+use Rattle.ledger.specs.Calls.{closed, withRun, pieceStep, step, after, replyRoom, packetRoom}
 use Rattle.ledger.specs.Shown.{Left, asLeft}
 use Rattle.ledger.specs.History.{byte, eventsOf, history}
 use Rattle.ledger.specs.ClosedFrames.{marksFrom, framesOf, framesIn, Closes}
-use Rattle.ledger.proofs.EveryList.{Agreeing}
+use Rattle.ledger.proofs.Chain.{Chain}
+use Rattle.ledger.proofs.EveryList.{Agreeing, next-call}
 use Rattle.ledger.proofs.ByEvents.{frames-append}
 use Rattle.ledger.proofs.HistoryLaws.{closedFrames, piece-same}
 use Rattle.ledger.proofs.SameHistory.{after-by}
-use Rattle.ledger.proofs.RoomLaws.{by-room}
+use Rattle.ledger.proofs.RoomLaws.{by-room, with-room}
 
 -- a step that closes a good data frame
 pub record ClosedBy (l : Ledger) (reply packet : List ℕ) (sequence : ℕ) (payload : List ℕ) (s : calls.Step) : Type 0 where
@@ -69,3 +70,11 @@ closes-here names cs left end a bytes count f counted is =
     let here : framesOf (marksFrom (l .line .run) (map byte (take count bytes))) ≡ f ∷ [] = rw all (piece-same bytes l 0 .frames ∙ is) in
     frames-append (start names) (history cs left) (map byte (take count bytes))
     ∙ ap (λ (fs : List Frame). framesIn (history cs left) ++ fs) (rw run-is at here)
+
+-- the next call with room leaves what the step of its piece gives
+pub next-gives : {names : List (List ℕ)} {cs : List Call} {left : List Left} {end : Display} → Agreeing names cs left end
+    → {bytes reply packet : List ℕ} {more : Left} {end₁ : Display} → Chain end (piece bytes reply packet ∷ []) (more ∷ []) end₁
+    → replyRoom ≤ length reply → packetRoom ≤ length packet
+    → more ≡ asLeft names (pieceStep (after (start names) cs) (taken (after (start names) cs .line .run) bytes 0) reply packet .given)
+next-gives {names = names} {cs = cs} a {bytes = bytes} {reply = reply} {packet = packet} next r p =
+    next-call a next .gives ∙ ap (λ (s : calls.Step). asLeft names (s .given)) (with-room (after (start names) cs) bytes reply packet r p)

@@ -20,12 +20,11 @@ use Rattle.ledger.specs.Ledger.{Ledger, start}
 use Rattle.ledger.specs.Frames as frames
 use Rattle.ledger.specs.Frames.{turn, afterTurn, Taken, taken, frameOf}
 use Rattle.ledger.specs.Answers.{WatchList, namesIn, Call, piece}
-use Rattle.ledger.specs.Calls as calls
 use Rattle.ledger.specs.Calls.{effectOf, withRun, after, replyRoom, packetRoom}
-use Rattle.ledger.specs.Shown.{asAnswer, asLeft, Left, took}
+use Rattle.ledger.specs.Shown.{asAnswer, Left, took}
 use Rattle.ledger.proofs.Chain.{Begins, Chain}
-use Rattle.ledger.proofs.EveryList.{Agreeing, agreeing, next-call}
-use Rattle.ledger.proofs.RoomLaws.{with-room}
+use Rattle.ledger.proofs.EveryList.{Agreeing, agreeing}
+use Rattle.ledger.proofs.ClosedCalls.{next-gives}
 
 -- a run without a flag, behind some bytes, is closed by the flag behind it
 flag-closes : (held run : List ℕ) (n : ℕ) → firstFlag run ≡ length run → 0 < length (held ++ run)
@@ -89,7 +88,7 @@ module _ (names : List (List ℕ)) (cs : List Call) (left : List Left) (end : Di
       (end₁ : Display) (next : Chain end (piece string reply packet ∷ []) (took count answer reply₁ packet₁ ∷ []) end₁) where
     said : answer ≡ asAnswer names (effectOf (withRun l (t .run)) (t .frame) .answer)
     said =
-        let gave = next-call a next .gives ∙ ap (λ (s : calls.Step). asLeft names (s .given)) (with-room l string reply packet r p) in
+        let gave = next-gives a next r p in
         cc
 
     is-refused : RefusedAs answer

@@ -30,7 +30,7 @@ use Rattle.ledger.proofs.StepAgreement.{Gives}
 use Rattle.ledger.proofs.Chain.{Begins, Chain}
 use Rattle.ledger.proofs.EveryList.{Agreeing, agreeing, next-call}
 use Rattle.ledger.proofs.HistoryLaws.{closedFrames}
-use Rattle.ledger.proofs.ClosedCalls.{closes-here}
+use Rattle.ledger.proofs.ClosedCalls.{closes-here, next-gives}
 use Rattle.ledger.proofs.RoomLaws.{with-room}
 
 -- an effect that is answered by a refusal
@@ -101,7 +101,7 @@ module _ (names : List (List ℕ)) (cs : List Call) (left : List Left) (end : Di
   ledger-is = ap (λ (s : calls.Step). s .ledger) (with-room l bytes reply packet r p)
 
   gave : took count (Refused n place) reply₁ packet₁ ≡ asLeft names (pieceStep l t reply packet .given)
-  gave = one .gives ∙ ap (λ (s : calls.Step). asLeft names (s .given)) (with-room l bytes reply packet r p)
+  gave = next-gives a next r p
 
   kept : Kept (withRun l (t .run)) n place (t .frame)
   kept = let said = gave in effect-kept names n place (withRun l (t .run)) (t .frame) (let same : asAnswer names (effect .answer) ≡ Refused n place = cc in same)

@@ -13,10 +13,10 @@ use Rattle.slices.specs.Put.{putAt}
 use Rattle.slices.proofs.PutLaws.{put-first}
 use Rattle.frame.specs.Stuffing.{contentMax}
 use Rattle.frame.specs.Content as content
-use Rattle.frame.specs.Content.{payloadMax, noPlace, judged}
+use Rattle.frame.specs.Content.{dataType, acknowledgementType, payloadMax, noPlace, judged}
 use Rattle.frame.specs.Answers.{readAnswer}
 use Rattle.frame.proofs.ContentLaws.{answer-frame}
-use Rattle.link.specs.Closing.{replyRoom, dataType, acknowledgementType, repeats, Outcome, acknowledgementFrame, againFrame, newFrame, dataFrame, refusedFrame, readOutcome, frameOutcome, closeOf}
+use Rattle.link.specs.Closing.{replyRoom, repeats, Outcome, acknowledgementFrame, againFrame, newFrame, dataFrame, refusedFrame, readOutcome, frameOutcome, closeOf}
 use Rattle.link.specs.Receiving.{walkCall, receiveOf}
 use Rattle.link.specs.Walk.{walkOf}
 use Rattle.link.specs.declared.counts.Counts.{Counts}

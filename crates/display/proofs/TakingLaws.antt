@@ -10,17 +10,18 @@ use Rattle.link.specs.Closing.{replyRoom}
 use Rattle.link.specs.Receiving.{Call, receiveOf}
 use Rattle.link.specs.declared.receiver.Answer as link-answer
 use Rattle.link.proofs.TakenLaws.{taken-progress, taken-within}
+use Rattle.sender.specs.declared.state.Sender.{Sender}
 use Rattle.display.specs.Display.{resultOf, receivePiece, DisplaysAs}
 use Rattle.display.specs.declared.Display.{Display}
 use Rattle.display.specs.declared.Received.{Received}
 use Rattle.display.specs.Taking.{Takes}
 
-pub taken-by-link : (answer : link-answer.Answer) (board : Board) (call : Call) → resultOf answer board call .taken ≡ call .taken
-taken-by-link link-answer.the-variants.Nothing board call = refl
-taken-by-link (link-answer.the-variants.Refused n place) board call = refl
-taken-by-link (link-answer.the-variants.Heard sequence) board call = refl
-taken-by-link (link-answer.the-variants.Again reply) board call = refl
-taken-by-link (link-answer.the-variants.New reply packet) board call = refl
+pub taken-by-link : (answer : link-answer.Answer) (sender : Sender) (board : Board) (call : Call) → resultOf answer sender board call .taken ≡ call .taken
+taken-by-link link-answer.the-variants.Nothing sender board call = refl
+taken-by-link (link-answer.the-variants.Refused n place) sender board call = refl
+taken-by-link (link-answer.the-variants.Heard sequence) sender board call = refl
+taken-by-link (link-answer.the-variants.Again reply) sender board call = refl
+taken-by-link (link-answer.the-variants.New reply packet) sender board call = refl
 
 pub takes-some : (display : Display) (piece : List ℕ) (replySize packetSize : ℕ) (reply packet reply₁ packet₁ : List ℕ) (received : Received)
     → replyRoom ≤ replySize → payloadMax ≤ packetSize → DisplaysAs (receivePiece display piece replySize packetSize) reply packet received reply₁ packet₁
@@ -29,7 +30,7 @@ unfolding receivePiece
 takes-some display piece replySize packetSize reply packet reply₁ packet₁ received a b r =
     let call = receiveOf (display .link) piece replySize packetSize in
     let same : received .taken ≡ call .taken =
-    ap (λ (x : Received). x .taken) (r .answers) ∙ taken-by-link (call .answer) (display .board) call in
+    ap (λ (x : Received). x .taken) (r .answers) ∙ taken-by-link (call .answer) (display .sender) (display .board) call in
     rw same
     (record {
       within = taken-within (display .link) piece replySize packetSize;

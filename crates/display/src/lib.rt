@@ -1,14 +1,18 @@
-// What the shed display runs: bytes from the module go in by pieces and minutes by ticks, over the
-// link's state and the board.
+// What the shed display runs: bytes from the module go in by pieces and minutes by ticks, our own
+// frames go out by sends and timeouts, over the link's state, the sender and the board.
 use link::receiver::Link;
 use link::receiver::count_unread;
 use rows::Board;
+use sender::Sender;
 ghost use mathlib.Core.Path.{_≡_};
 ghost use lib.ListN.{length};
+ghost use Rattle.sender.specs.Events.{sendOf, timeoutOf};
 ghost use Rattle.display.specs.Display.{countReading, takeReading, keepBoard, fresh, tickDisplay, receivePiece, DisplaysAs};
+ghost use Rattle.display.specs.Sending.{sentBy, SendsAs};
 
 pub struct Display {
     pub link: Link,
+    pub sender: Sender,
     pub board: Board,
 }
 
@@ -36,12 +40,23 @@ pub struct Received {
     pub answer: Answer,
 }
 
+// What a send or a timeout gave.
+pub struct Sent {
+    pub display: Display,
+    pub answer: sender::Answer,
+}
+
 // A display before the first byte, with a board.
 pub fn start(board: Board) -> Display
     ensures { λ r. ⌜ r ≡ fresh board ⌝ }
 {
     let link = link::receiver::fresh();
-    Display { link, board }
+    let sender = sender::fresh();
+    Display {
+        link,
+        sender,
+        board,
+    }
 }
 
 // A minute has passed: the board is lent for one tick.
@@ -49,21 +64,64 @@ pub fn tick(display: Display) -> Display
     ensures { λ r. ⌜ r ≡ tickDisplay display ⌝ }
 {
     let link = display.link;
+    let sender = display.sender;
     let board = display.board;
     let ticked = rows::lent_tick(board);
     Display {
         link,
+        sender,
         board: ticked,
+    }
+}
+
+// Sends a payload in a data frame, and holds it until the module has acknowledged it. While a frame is
+// still waiting this is refusal 25, for a payload over 383 bytes 8, for an output too short for the
+// frame 7.
+pub fn send(display: Display, payload: &[u8], output: &mut [u8]) -> Sent
+    ensures { λ r. ⌜ SendsAs display (sendOf (display .sender) (now (payload .entry)) (length (now (output .entry)))) (now (output .entry)) r (now (output .exit)) ⌝ }
+{
+    let sender = display.sender;
+    let outcome = sender::send(sender, payload, output);
+    with_sender(display, outcome)
+}
+
+// No acknowledgement came in time: the held frame is sent again the first two times, where an output
+// too short for it is refusal 7; the third time it is dropped and reported. With nothing held nothing
+// happens.
+pub fn timeout(display: Display, output: &mut [u8]) -> Sent
+    ensures { λ r. ⌜ SendsAs display (timeoutOf (display .sender) (length (now (output .entry)))) (now (output .entry)) r (now (output .exit)) ⌝ }
+{
+    let sender = display.sender;
+    let outcome = sender::timeout(sender, output);
+    with_sender(display, outcome)
+}
+
+// The display with the sender that an event left.
+fn with_sender(display: Display, outcome: sender::Outcome) -> Sent
+    ensures { λ r. ⌜ r ≡ sentBy display outcome ⌝ }
+{
+    let link = display.link;
+    let sender = outcome.sender;
+    let board = display.board;
+    let answer = outcome.answer;
+    Sent {
+        display: Display {
+            link,
+            sender,
+            board,
+        },
+        answer,
     }
 }
 
 // Takes bytes of the piece up to the flag that ends a frame, or all of them. Every new packet is
 // read by the board at once; one that the board refuses is counted as unread, and its frame stays
-// acknowledged and handed out.
+// acknowledged and handed out. An acknowledgement that is heard frees the held frame of its sequence.
 pub fn receive(display: Display, piece: &[u8], reply: &mut [u8], packet: &mut [u8]) -> Received
     ensures { λ r. ⌜ DisplaysAs (receivePiece display (now (piece .entry)) (length (now (reply .entry))) (length (now (packet .entry)))) (now (reply .entry)) (now (packet .entry)) r (now (reply .exit)) (now (packet .exit)) ⌝ }
 {
     let before = display.link;
+    let sender = display.sender;
     let board = display.board;
     let received = link::receiver::receive(before, piece, reply, packet);
     let answer = received.answer;
@@ -73,32 +131,42 @@ pub fn receive(display: Display, piece: &[u8], reply: &mut [u8], packet: &mut [u
             packet: length,
         } => {
             let reading = board::read(board, &packet[..length]);
-            hand_up(received, replied, length, reading)
+            hand_up(received, sender, replied, length, reading)
         }
-        link::receiver::Answer::Nothing => keep(received, board, Answer::Nothing),
+        link::receiver::Answer::Nothing => keep(received, sender, board, Answer::Nothing),
         link::receiver::Answer::Refused { number, place } => {
-            keep(received, board, Answer::Refused { number, place })
+            keep(received, sender, board, Answer::Refused { number, place })
         }
-        link::receiver::Answer::Heard(sequence) => keep(received, board, Answer::Heard(sequence)),
-        link::receiver::Answer::Again(length) => keep(received, board, Answer::Again(length)),
+        link::receiver::Answer::Heard(sequence) => {
+            let behind = sender::acknowledge(sender, sequence);
+            keep(received, behind, board, Answer::Heard(sequence))
+        }
+        link::receiver::Answer::Again(length) => {
+            keep(received, sender, board, Answer::Again(length))
+        }
     }
 }
 
 // A new packet, with what the board read in it.
 fn hand_up(
     received: link::receiver::Received,
+    sender: Sender,
     reply: usize,
     packet: usize,
     reading: board::Reading,
 ) -> Received
-    ensures { λ r. ⌜ r ≡ takeReading received reply packet reading ⌝ }
+    ensures { λ r. ⌜ r ≡ takeReading received sender reply packet reading ⌝ }
 {
     let answer = reading.answer;
     let board = reading.board;
     let state = received.link;
     let link = count_reading(state, answer);
     Received {
-        display: Display { link, board },
+        display: Display {
+            link,
+            sender,
+            board,
+        },
         taken: received.taken,
         answer: Answer::New {
             reply,
@@ -120,12 +188,21 @@ fn count_reading(link: Link, reading: board::Answer) -> Link
 }
 
 // A call that brought no new packet.
-fn keep(received: link::receiver::Received, board: Board, answer: Answer) -> Received
-    ensures { λ r. ⌜ r ≡ keepBoard received board answer ⌝ }
+fn keep(
+    received: link::receiver::Received,
+    sender: Sender,
+    board: Board,
+    answer: Answer,
+) -> Received
+    ensures { λ r. ⌜ r ≡ keepBoard received sender board answer ⌝ }
 {
     let link = received.link;
     Received {
-        display: Display { link, board },
+        display: Display {
+            link,
+            sender,
+            board,
+        },
         taken: received.taken,
         answer,
     }

@@ -6,6 +6,8 @@ use crate::feeding::pass;
 use cases::print;
 use display::Display;
 use history::lines::LINE_MAX;
+use link::counts::Counts;
+use rows::Board;
 
 pub(crate) fn compare(display: Display, stream: &[u8]) -> Display {
     let before = Passed { display, check: 0 };
@@ -58,16 +60,23 @@ fn byte_by_byte(before: Passed, stream: &[u8]) -> u16 {
 fn total(passed: Passed) -> u16 {
     let display = passed.display;
     let link = display.link;
-    let counts = link.counts;
-    let refused = counts.refused;
     let board = display.board;
+    rows_marked(counts_marked(passed.check, link.counts), board)
+}
+
+fn counts_marked(check: u16, counts: Counts) -> u16 {
+    let refused = counts.refused;
     let mut line = [0u8; LINE_MAX];
     history::lines::counts(&mut line, counts);
-    let first = crc::check(passed.check, &line);
+    let first = crc::check(check, &line);
     history::lines::refused(&mut line, &refused);
-    let second = crc::check(first, &line);
+    crc::check(first, &line)
+}
+
+fn rows_marked(check: u16, board: Board) -> u16 {
+    let mut line = [0u8; LINE_MAX];
     history::lines::row(&mut line, board.rows[0]);
-    let third = crc::check(second, &line);
+    let first = crc::check(check, &line);
     history::lines::row(&mut line, board.rows[1]);
-    crc::check(third, &line)
+    crc::check(first, &line)
 }

@@ -5,9 +5,12 @@
 // The keys: `s` a fresh display that watches h1 and h2, `f` feeds it a stream, `z` feeds it a number of
 // zeros, `a` a number of acknowledgements with no answer printed, `t` ticks it, `b` calls it with
 // buffers that are a byte too short, `c` prints its counts and rows, `k` cuts a stream at every place.
+// By request C-13: `d` sends the payload behind the first two bytes, which are the length of the lent
+// output, at most 800; `o` is a timeout with so long an output; `h` prints what the sender holds.
 mod calls;
 mod cuts;
 mod feeding;
+mod sending;
 
 pub use calls::show_display;
 use cases::line;
@@ -26,6 +29,8 @@ pub fn run(display: Display, line: &[u8], bytes: &[u8]) -> Display {
         b'b' => calls::short_buffers(display, bytes),
         b'c' => calls::show_display(display),
         b'k' => cuts::compare(display, bytes),
+        b'd' | b'o' => sending::run_event(display, line, bytes),
+        b'h' => sending::show_sender(display),
         _ => no_key(display, line),
     }
 }

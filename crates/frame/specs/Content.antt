@@ -7,6 +7,13 @@ use lib.ListN.{length, take, drop, getD}
 use Rattle.refusals.specs.Numbers.{shortContent, badCheck}
 use Rattle.crc.specs.Crc.{linkStart, crcOf, checkBytes}
 
+-- 01, The receiver: type 01 is data, type 02 an acknowledgement
+abbrev pub dataType : ℕ
+dataType = 0x01
+
+abbrev pub acknowledgementType : ℕ
+acknowledgementType = 0x02
+
 abbrev pub payloadMax : ℕ
 payloadMax = 383
 

@@ -16,6 +16,11 @@ pub const ESCAPED_ESCAPE: u8 = 0x5d;
 // How much less they are than what they stand for.
 pub const ESCAPED_DIFFERENCE: u8 = 0x20;
 
+// What the papers call a frame's type is `kind` in the code: data, or an acknowledgement.
+pub const DATA: u8 = 0x01;
+
+pub const ACKNOWLEDGEMENT: u8 = 0x02;
+
 pub const PAYLOAD_MAX: usize = 383;
 // Type and sequence, in front of the payload.
 pub const HEADER_SIZE: usize = 2;

@@ -1,4 +1,4 @@
--- The ledger event by event: what one byte or one minute does to it, what it tells, and which frame it closes. Histories one behind the
+-- The ledger event by event: what one byte, one minute, one send or one timeout does to it, what it tells, and which frame it closes. Histories one behind the
 -- other do one after the other.
 use mathlib.Core.Path.{_≡_, refl, sym, ap, _∙_}
 use mathlib.Core.Bool.{Bool, true, false, cond}
@@ -7,27 +7,36 @@ use mathlib.Core.Option.{Option, some}
 use Prim.Native.Nat.{ℕ}
 use lib.Dec.{eqb}
 use Rattle.refusals.specs.Numbers.{shortOutput}
-use Rattle.ledger.specs.Ledger.{Ledger}
+use Rattle.ledger.specs.Ledger.{Ledger, withSender}
 use Rattle.ledger.specs.Frames as frames
 use Rattle.ledger.specs.Frames.{Turn, goes-on, closes, turn, Frame, frameOf}
-use Rattle.ledger.specs.Answers.{Answer, nothing, refused, heard, again, new}
+use Rattle.ledger.specs.Answers.{Answer, nothing, refused, heard, again, new, Sending}
+use Rattle.ledger.specs.Sending.{SenderStep, sends, timesOut}
 use Rattle.ledger.specs.Calls as calls
 use Rattle.ledger.specs.Calls.{repeated, closed, withRun}
-use Rattle.ledger.specs.History.{Event, byte, minute}
-use Rattle.ledger.specs.ClosedFrames.{Mark, passed, frame, behindTurn, marksFrom, framesOf, dataSequences, lastFrom}
+use Rattle.ledger.specs.History.{Event, byte, minute, send, timeout}
+use Rattle.ledger.specs.ClosedFrames.{Mark, passed, frame, sent, timed-out, behindTurn, marksFrom, framesOf, dataSequences, lastFrom}
 use Rattle.ledger.proofs.LineLaws.{run-kept, repeats-last, read-sequence}
 
+-- an answer to a piece, or to a send or a timeout
+pub data Told : Type 0 where
+  by-piece : Answer → Told
+  by-sender : Sending → Told
+
 -- of the ledger's answers those that do not depend on where a piece was cut, as History `answersAs` has it of the software's
-abbrev pub toldBy : Answer → List Answer
+abbrev pub toldBy : Answer → List Told
 toldBy nothing = []
-toldBy (refused n place) = cond (eqb n shortOutput) [] (refused n place ∷ [])
-toldBy (heard sequence) = heard sequence ∷ []
-toldBy (again sequence) = again sequence ∷ []
-toldBy (new sequence payload verdict) = new sequence payload verdict ∷ []
+toldBy (refused n place) = cond (eqb n shortOutput) [] (by-piece (refused n place) ∷ [])
+toldBy (heard sequence) = by-piece (heard sequence) ∷ []
+toldBy (again sequence) = by-piece (again sequence) ∷ []
+toldBy (new sequence payload verdict) = by-piece (new sequence payload verdict) ∷ []
 
 pub record Happening : Type 0 where
   pub ledger : Ledger
-  pub told : List Answer
+  pub told : List Told
+
+abbrev pub bySender : Ledger → SenderStep → Happening
+bySender l s = record { ledger = withSender l (s .sender); told = by-sender (s .answer) ∷ [] }
 
 abbrev pub atTurn : Ledger → Turn → Happening
 atTurn l (goes-on run) = record { ledger = withRun l run; told = [] }
@@ -38,12 +47,14 @@ abbrev pub happens : Ledger → Event → Happening
 happens l (byte b) = atTurn l (turn (l .line .run) b)
 happens l minute =
     record { ledger = calls.afterTick l; told = [] }
+happens l (send payload) = bySender l (sends (l .sender) payload)
+happens l timeout = bySender l (timesOut (l .sender))
 
 unfoldable pub afterHistory : Ledger → List Event → Ledger
 afterHistory l [] = l
 afterHistory l (e ∷ es) = afterHistory (happens l e .ledger) es
 
-unfoldable pub toldInHistory : Ledger → List Event → List Answer
+unfoldable pub toldInHistory : Ledger → List Event → List Told
 toldInHistory l [] = []
 toldInHistory l (e ∷ es) = happens l e .told ++ toldInHistory (happens l e .ledger) es
 
@@ -56,13 +67,15 @@ pub told-append : (l : Ledger) (xs ys : List Event) → toldInHistory l (xs ++ y
 unfolding toldInHistory afterHistory
 told-append l [] ys = refl
 told-append l (x ∷ xs) ys =
-    ap (λ (r : List Answer). happens l x .told ++ r) (told-append (happens l x .ledger) xs ys)
+    ap (λ (r : List Told). happens l x .told ++ r) (told-append (happens l x .ledger) xs ys)
     ∙ sym (append-assoc (happens l x .told) (toldInHistory (happens l x .ledger) xs) (toldInHistory (afterHistory (happens l x .ledger) xs) ys))
 
 marks-append : (l : Ledger) (xs ys : List Event) → marksFrom (l .line .run) (xs ++ ys) ≡ marksFrom (l .line .run) xs ++ marksFrom (afterHistory l xs .line .run) ys
 unfolding marksFrom afterHistory
 marks-append l [] ys = refl
 marks-append l (minute ∷ xs) ys = ap (λ (ms : List Mark). passed ∷ ms) (marks-append (happens l minute .ledger) xs ys)
+marks-append l (send payload ∷ xs) ys = ap (λ (ms : List Mark). sent payload ∷ ms) (marks-append (happens l (send payload) .ledger) xs ys)
+marks-append l (timeout ∷ xs) ys = ap (λ (ms : List Mark). timed-out ∷ ms) (marks-append (happens l timeout .ledger) xs ys)
 marks-append l (byte b ∷ xs) ys = by-turn (turn (l .line .run) b) (λ m. marks-append m xs ys)
   where
     by-turn : (t : Turn) → ((m : Ledger) → marksFrom (m .line .run) (xs ++ ys) ≡ marksFrom (m .line .run) xs ++ marksFrom (afterHistory m xs .line .run) ys)
@@ -77,6 +90,8 @@ frames-joined : (xs ys : List Mark) → framesOf (xs ++ ys) ≡ framesOf xs ++ f
 unfolding framesOf
 frames-joined [] ys = refl
 frames-joined (passed ∷ xs) ys = frames-joined xs ys
+frames-joined (sent payload ∷ xs) ys = frames-joined xs ys
+frames-joined (timed-out ∷ xs) ys = frames-joined xs ys
 frames-joined (frame f ∷ xs) ys = ap (λ (fs : List Frame). f ∷ fs) (frames-joined xs ys)
 
 pub frames-append : (l : Ledger) (xs ys : List Event)
@@ -100,6 +115,8 @@ pub history-sequence : (l : Ledger) (es : List Event) → afterHistory l es .lin
 unfolding marksFrom framesOf afterHistory lastFrom dataSequences
 history-sequence l [] = refl
 history-sequence l (minute ∷ es) = history-sequence (happens l minute .ledger) es
+history-sequence l (send payload ∷ es) = history-sequence (happens l (send payload) .ledger) es
+history-sequence l (timeout ∷ es) = history-sequence (happens l timeout .ledger) es
 history-sequence l (byte b ∷ es) = by-turn (turn (l .line .run) b) (λ m. history-sequence m es)
   where
     by-turn : (t : Turn) → ((m : Ledger) → afterHistory m es .line .sequence ≡ lastFrom (m .line .sequence) (dataSequences (framesOf (marksFrom (m .line .run) es))))

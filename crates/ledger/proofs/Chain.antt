@@ -13,15 +13,20 @@ use Rattle.board.specs.declared.list.Listed.the-variants.{Accepted}
 use Rattle.board.specs.declared.list.Watched.{Watched}
 use Rattle.board.proofs.watch.Reads as watch
 use Rattle.board.proofs.watch_list.Reads as watch-list
+use Rattle.sender.specs.Events.{sendOf, timeoutOf}
 use Rattle.display.specs.Display.{receivePiece, DisplaysAs, tickDisplay}
+use Rattle.display.specs.Sending.{withSender, sentBy, SendsAs}
 use Rattle.display.specs.declared.Display.{Display}
 use Rattle.display.specs.declared.Received.{Received}
+use Rattle.display.specs.declared.Sent.{Sent}
 use Rattle.display.proofs.receive.Reads as receive
+use Rattle.display.proofs.send.Reads as send
 use Rattle.display.proofs.start.Reads as start
 use Rattle.display.proofs.tick.Reads as tick
+use Rattle.display.proofs.timeout.Reads as timeout
 use Rattle.ledger.specs.Answers as answers
 use Rattle.ledger.specs.Answers.{WatchList, as-bytes, one-by-one, Call}
-use Rattle.ledger.specs.Shown.{Left, took, ticked}
+use Rattle.ledger.specs.Shown.{Left, took, ticked, outgoing}
 
 -- one call of `display::receive`: the slices lent hold the piece and the buffers as they were, and at exit the buffers as they are
 pub record Receives (d : Display) (bytes reply packet : List ℕ) (result : Received) (reply₁ packet₁ : List ℕ) : Type 0 where
@@ -35,6 +40,25 @@ pub record Receives (d : Display) (bytes reply packet : List ℕ) (result : Rece
   pub learnt :
       receive.Learnt lifetimes (d, (piece-lent .slice, (reply-lent .slice, (packet-lent .slice, tt)))) result
       (d, (piece-lent .slice, (reply-left .slice, (packet-left .slice, tt))))
+
+-- one call of `display::send`, and of `display::timeout`: the slices lent hold the payload and the output as it was, and at exit the output as
+-- it is
+pub record Sends (d : Display) (payload output : List ℕ) (result : Sent) (output₁ : List ℕ) : Type 0 where
+  pub lifetimes : Lfts 2
+  pub payload-lent : Lent payload
+  pub output-lent : Lent output
+  pub output-left : Lent output₁
+  pub asked : send.Asked lifetimes (d, (payload-lent .slice, (output-lent .slice, tt)))
+  pub learnt :
+      send.Learnt lifetimes (d, (payload-lent .slice, (output-lent .slice, tt))) result
+      (d, (payload-lent .slice, (output-left .slice, tt)))
+
+pub record TimesOut (d : Display) (output : List ℕ) (result : Sent) (output₁ : List ℕ) : Type 0 where
+  pub lifetimes : Lfts 1
+  pub output-lent : Lent output
+  pub output-left : Lent output₁
+  pub asked : timeout.Asked lifetimes (d, (output-lent .slice, tt))
+  pub learnt : timeout.Learnt lifetimes (d, (output-lent .slice, tt)) result (d, (output-left .slice, tt))
 
 -- one call of `display::tick`
 abbrev pub Ticks : Display → Display → Type 0
@@ -67,12 +91,26 @@ pub data Chain : Display → List Call → List Left → Display → Type 0 wher
       → Receives d bytes reply packet result reply₁ packet₁ → Chain (result .display) cs left d₁
       → Chain d (answers.piece bytes reply packet ∷ cs) (took (result .taken) (result .answer) reply₁ packet₁ ∷ left) d₁
   ticks : {d d₁ d₂ : Display} {cs : List Call} {left : List Left} → Ticks d d₁ → Chain d₁ cs left d₂ → Chain d (answers.tick ∷ cs) (ticked ∷ left) d₂
+  sends : {d d₁ : Display} {payload output output₁ : List ℕ} {result : Sent} {cs : List Call} {left : List Left}
+      → Sends d payload output result output₁ → Chain (result .display) cs left d₁
+      → Chain d (answers.send payload output ∷ cs) (outgoing (result .answer) output₁ ∷ left) d₁
+  times-out : {d d₁ : Display} {output output₁ : List ℕ} {result : Sent} {cs : List Call} {left : List Left}
+      → TimesOut d output result output₁ → Chain (result .display) cs left d₁
+      → Chain d (answers.timeout output ∷ cs) (outgoing (result .answer) output₁ ∷ left) d₁
 
 -- what such a call did, by the contract
 pub received : {d : Display} {bytes reply packet reply₁ packet₁ : List ℕ} {result : Received} → Receives d bytes reply packet result reply₁ packet₁
     → DisplaysAs (receivePiece d bytes (length reply) (length packet)) reply packet result reply₁ packet₁
 received r =
     rw (r .piece-lent .holds, r .reply-lent .holds, r .packet-lent .holds, r .reply-left .holds, r .packet-left .holds) at (r .learnt)
+
+pub sent : {d : Display} {payload output output₁ : List ℕ} {result : Sent} → Sends d payload output result output₁
+    → SendsAs d (sendOf (d .sender) payload (length output)) output result output₁
+sent r = rw (r .payload-lent .holds, r .output-lent .holds, r .output-left .holds) at (r .learnt)
+
+pub timed-out : {d : Display} {output output₁ : List ℕ} {result : Sent} → TimesOut d output result output₁
+    → SendsAs d (timeoutOf (d .sender) (length output)) output result output₁
+timed-out r = rw (r .output-lent .holds, r .output-left .holds) at (r .learnt)
 
 -- The theorems are about something: from every display there is a chain for every list of calls.
 pub record Runs (d : Display) (cs : List Call) : Type 0 where
@@ -97,6 +135,29 @@ received-by d bytes reply packet =
       learnt = record { answers = refl; replied = refl; handed-out = refl };
     }
 
+pub sent-by : (d : Display) (payload output : List ℕ)
+    → Sends d payload output (sentBy d (sendOf (d .sender) payload (length output) .outcome)) (putAt output 0 (sendOf (d .sender) payload (length output) .output))
+sent-by d payload output =
+    record {
+      lifetimes = ([], ([], tt));
+      payload-lent = lent payload;
+      output-lent = lent output;
+      output-left = lent (putAt output 0 (sendOf (d .sender) payload (length output) .output));
+      asked = tt;
+      learnt = record { answers = refl; sends = refl };
+    }
+
+pub timed-out-by : (d : Display) (output : List ℕ)
+    → TimesOut d output (sentBy d (timeoutOf (d .sender) (length output) .outcome)) (putAt output 0 (timeoutOf (d .sender) (length output) .output))
+timed-out-by d output =
+    record {
+      lifetimes = ([], tt);
+      output-lent = lent output;
+      output-left = lent (putAt output 0 (timeoutOf (d .sender) (length output) .output));
+      asked = tt;
+      learnt = record { answers = refl; sends = refl };
+    }
+
 pub every-list-runs : (d : Display) (cs : List Call) → Runs d cs
 every-list-runs d [] = record { left = []; end = d; chain = done }
 every-list-runs d (answers.piece bytes reply packet ∷ cs) =
@@ -106,11 +167,23 @@ every-list-runs d (answers.piece bytes reply packet ∷ cs) =
 every-list-runs d (answers.tick ∷ cs) =
     let rest = every-list-runs (tickDisplay d) cs in
     record { left = ticked ∷ rest .left; end = rest .end; chain = ticks refl (rest .chain) }
+every-list-runs d (answers.send payload output ∷ cs) =
+    let rest = every-list-runs (withSender d (sendOf (d .sender) payload (length output) .outcome .sender)) cs in
+    record { left = _ ∷ rest .left; end = rest .end; chain = sends (sent-by d payload output) (rest .chain) }
+every-list-runs d (answers.timeout output ∷ cs) =
+    let rest = every-list-runs (withSender d (timeoutOf (d .sender) (length output) .outcome .sender)) cs in
+    record { left = _ ∷ rest .left; end = rest .end; chain = times-out (timed-out-by d output) (rest .chain) }
 
 -- Nothing is asked before the next call, whatever came before it.
 pub next-piece : (d : Display) (bytes reply packet : List ℕ) (lifetimes : Lfts 3)
     → receive.Asked lifetimes (d, (lent bytes .slice, (lent reply .slice, (lent packet .slice, tt))))
 next-piece d bytes reply packet lifetimes = tt
+
+pub next-send : (d : Display) (payload output : List ℕ) (lifetimes : Lfts 2) → send.Asked lifetimes (d, (lent payload .slice, (lent output .slice, tt)))
+next-send d payload output lifetimes = tt
+
+pub next-timeout : (d : Display) (output : List ℕ) (lifetimes : Lfts 1) → timeout.Asked lifetimes (d, (lent output .slice, tt))
+next-timeout d output lifetimes = tt
 
 pub next-tick : (d : Display) → tick.Asked tt (d, tt)
 next-tick d = tt

@@ -1,5 +1,5 @@
 -- DEMAND 3. For every watch list that is accepted, as bytes or name by name, and every list of calls from a fresh start, refused calls
--- among them, the answers and the bytes left in the buffers are the ledger's, call by call, and afterwards the counts and the board are.
+-- among them, the answers and the bytes left in the buffers are the ledger's, call by call, and afterwards the counts, the board and the sender are.
 -- It holds since a fresh start agrees with the ledger's and each call keeps the agreement.
 use mathlib.Core.Path.{_≡_, refl, ap, ap₂, _∙_, subst⁻¹}
 use mathlib.Core.List.{List, [], _∷_, map}
@@ -12,16 +12,18 @@ use Rattle.board.specs.WatchList.{Good}
 use Rattle.board.proofs.NameLaws.{Fits, good-fits}
 use Rattle.rows.proofs.EntryLaws.{fresh-showing}
 use Rattle.link.proofs.OursLaws.{ours-fresh}
+use Rattle.slices.proofs.Impossible.{impossible}
+use Rattle.sender.specs.State.{freshSender}
 use Rattle.display.specs.Display as display
 use Rattle.display.specs.declared.Display.{Display}
-use Rattle.ledger.specs.Ledger.{Ledger, unheard, nameOf, start}
+use Rattle.ledger.specs.Ledger.{Ledger, noneSent, unheard, nameOf, start}
 use Rattle.ledger.specs.Answers as answers
 use Rattle.ledger.specs.Answers.{WatchList, namesIn, Call}
 use Rattle.ledger.specs.Calls.{step, given, after}
-use Rattle.ledger.specs.Shown.{asCounts, asEntry, Left, asLeft}
-use Rattle.ledger.proofs.StepAgreement.{Agrees, Gives, tick-agrees}
+use Rattle.ledger.specs.Shown.{asCounts, asSender, asEntry, Left, asLeft}
+use Rattle.ledger.proofs.StepAgreement.{Agrees, Gives, tick-agrees, send-agrees, timeout-agrees}
 use Rattle.ledger.proofs.PieceAgreement.{piece-agrees}
-use Rattle.ledger.proofs.Chain.{Begins, Chain, done, receives, ticks, received}
+use Rattle.ledger.proofs.Chain.{Begins, Chain, done, receives, ticks, sends, times-out, received, sent, timed-out}
 use Rattle.ledger.proofs.FreshStarts.{began}
 
 -- what the ledger says of a list of calls
@@ -34,6 +36,8 @@ pub record IsLedgers (w : WatchList) (cs : List Call) (left : List Left) (end : 
   pub counts : end .link .counts ≡ asCounts (after (start names) cs .line .counts)
   -- the board, with all its rows, is the one that shows the ledger's entries
   pub board : end .board ≡ boardShowing rowCount (map asEntry (after (start names) cs .hives .entries))
+  -- 02, C-13: the sender holds what the ledger holds
+  pub sender : end .sender ≡ asSender (after (start names) cs .sender)
 
 fresh-shown : (names : List (List ℕ)) → map freshEntry names ≡ map asEntry (map unheard names)
 fresh-shown [] = refl
@@ -43,6 +47,10 @@ pub fresh-named : (names : List (List ℕ)) → map nameOf (map unheard names) �
 fresh-named [] = refl
 fresh-named (n ∷ names) = ap (λ (l : List (List ℕ)). n ∷ l) (fresh-named names)
 
+fresh-sender : freshSender ≡ asSender noneSent
+unfolding freshSender
+fresh-sender = refl
+
 pub fresh-agrees : (count : ℕ) (names : List (List ℕ)) → Agrees count names (start names) (display.fresh (boardOf count names))
 fresh-agrees count names =
     record {
@@ -50,6 +58,8 @@ fresh-agrees count names =
       standing = refl;
       last-is = refl;
       counts-are = refl;
+      sender-is = fresh-sender;
+      held-fits = λ frame e. impossible cc;
       shows = record { showing = fresh-showing count names ∙ ap (boardShowing count) (fresh-shown names); named = fresh-named names };
     }
 
@@ -69,6 +79,14 @@ chain-agrees names fit l (receives {d = d} {bytes = bytes} {reply = reply} {pack
 chain-agrees {count} names fit l (ticks {d = d} t rest) a =
     let first = tick-agrees names l d a in
     let more = chain-agrees {count = count} names fit (step l answers.tick .ledger) rest (rw t (first .agrees)) in
+    record { gives = ap₂ (λ (x : Left) (xs : List Left). x ∷ xs) (first .gives) (more .gives); agrees = more .agrees }
+chain-agrees {count} names fit l (sends {d = d} {payload = payload} {output = output} s rest) a =
+    let first = send-agrees names l d a payload output _ _ (sent s) in
+    let more = chain-agrees {count = count} names fit (step l (answers.send payload output) .ledger) rest (first .agrees) in
+    record { gives = ap₂ (λ (x : Left) (xs : List Left). x ∷ xs) (first .gives) (more .gives); agrees = more .agrees }
+chain-agrees {count} names fit l (times-out {d = d} {output = output} t rest) a =
+    let first = timeout-agrees names l d a output _ _ (timed-out t) in
+    let more = chain-agrees {count = count} names fit (step l (answers.timeout output) .ledger) rest (first .agrees) in
     record { gives = ap₂ (λ (x : Left) (xs : List Left). x ∷ xs) (first .gives) (more .gives); agrees = more .agrees }
 
 -- the names of a fresh start are those of its watch list
@@ -116,4 +134,5 @@ every-list w d begins cs left end chain =
       answers = agreed .gives;
       counts = agreed .agrees .counts-are;
       board = agreed .agrees .shows .showing;
+      sender = agreed .agrees .sender-is;
     }

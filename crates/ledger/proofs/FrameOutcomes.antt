@@ -9,22 +9,24 @@ use lib.Dec.{eqb}
 use lib.ListN.{length}
 use Rattle.slices.proofs.Impossible.{impossible}
 use Rattle.frame.specs.Content as content
+use Rattle.frame.specs.Content.{dataType, acknowledgementType}
 use Rattle.rows.specs.Entries.{boardShowing}
 use Rattle.rows.specs.declared.Board.{Board}
-use Rattle.link.specs.Closing.{Outcome, dataType, acknowledgementType, repeats, acknowledgementFrame, againFrame, newFrame, dataFrame, refusedFrame, readOutcome}
+use Rattle.link.specs.Closing.{Outcome, repeats, acknowledgementFrame, againFrame, newFrame, dataFrame, refusedFrame, readOutcome}
 use Rattle.link.specs.Receiving.{callOf}
 use Rattle.link.specs.Walk.{Walk}
 use Rattle.link.specs.declared.counts.Counts as link-counts
 use Rattle.link.specs.declared.receiver.Answer.the-variants as link-says
 use Rattle.link.specs.declared.receiver.Last.{Last}
 use Rattle.link.specs.declared.receiver.Last.the-variants.{None, Sequence}
+use Rattle.sender.specs.declared.state.Sender.{Sender}
 use Rattle.display.specs.Display.{resultOf}
 use Rattle.display.specs.declared.Received.{Received}
 use Rattle.ledger.specs.Ledger.{Entry, nameOf}
 use Rattle.ledger.specs.Frames as frames
 use Rattle.ledger.specs.Frames.{Frame, byType}
 use Rattle.ledger.specs.Calls.{Effect}
-use Rattle.ledger.specs.Shown.{asCounts, asEntry, asAnswer}
+use Rattle.ledger.specs.Shown.{asCounts, asSender, asEntry, asAnswer}
 
 -- the link's last sequence
 abbrev pub asLast : Option ℕ → Last
@@ -76,8 +78,10 @@ pub record Effects (count : ℕ) (names : List (List ℕ)) (w : Walk) (result : 
   pub reader-is : result .display .link .reader ≡ w .reader
   pub last-is : result .display .link .last ≡ asLast (e .ledger .line .sequence)
   pub counts-are : result .display .link .counts ≡ asCounts (e .ledger .line .counts)
+  pub sender-is : result .display .sender ≡ asSender (e .ledger .sender)
   pub shows : Shows count names (e .ledger .hives .entries) (result .display .board)
 
 -- they agree for what an outcome makes of the display
-abbrev pub EffectsOf : ℕ → List (List ℕ) → Board → Walk → Outcome → Effect → Type 0
-EffectsOf count names board w o e = Effects count names w (resultOf (o .answer) board (callOf w o)) (o .reply) (o .packet) e
+abbrev pub EffectsOf : ℕ → List (List ℕ) → Sender → Board → Walk → Outcome → Effect → Type 0
+EffectsOf count names sender board w o e =
+    Effects count names w (resultOf (o .answer) sender board (callOf w o)) (o .reply) (o .packet) e

@@ -1,5 +1,5 @@
 -- What a call handed out stands at the start of the buffers, as long as the answer says: an acknowledgement has at most the nine bytes
--- that a reply buffer has, and a payload at most the 383 of a packet buffer.
+-- that a reply buffer has, a payload at most the 383 of a packet buffer, and a frame of our own goes out only where there is room for it.
 use mathlib.Core.Path.{_≡_, refl, ap, ap₂}
 use mathlib.Core.Bool.{Bool, true, false, cond}
 use mathlib.Core.List.{List, [], _∷_}
@@ -15,13 +15,15 @@ use Rattle.ledger.specs.Ledger.{Ledger}
 use Rattle.ledger.specs.Frames as frames
 use Rattle.ledger.specs.Frames.{Frame, taken, frameOf}
 use Rattle.ledger.specs.Answers as answers
-use Rattle.ledger.specs.Answers.{Call, Given, Answer}
+use Rattle.ledger.specs.Answers.{Call, Given, Answer, Sending}
+use Rattle.ledger.specs.Sending.{SenderStep, ownFrame}
 use Rattle.ledger.specs.Calls as calls
 use Rattle.ledger.specs.Calls.{Effect, answerTo, repeated, closed, effectOf, withRun, step, replyRoom, packetRoom}
-use Rattle.ledger.specs.Shown.{asAnswer, asLeft}
-use Rattle.ledger.specs.History.{Handed, as-reply, as-packet, handedAs, handedLeft}
+use Rattle.ledger.specs.Shown.{asAnswer, asSending, asLeft}
+use Rattle.ledger.specs.History.{Handed, as-reply, as-sent, as-packet, handedAs, sentAs, handedLeft}
 use Rattle.ledger.proofs.FrameLaws.{payload-bounded}
 use Rattle.ledger.proofs.RoomLaws.{by-room}
+use Rattle.ledger.proofs.SenderLaws.{by-send, by-waiting, by-timeout}
 
 -- what the ledger hands out with an answer
 abbrev pub handedBy : Answer → List Handed
@@ -31,9 +33,17 @@ handedBy (answers.heard sequence) = []
 handedBy (answers.again sequence) = as-reply (answerTo sequence) ∷ []
 handedBy (answers.new sequence payload verdict) = as-reply (answerTo sequence) ∷ as-packet payload ∷ []
 
+abbrev pub handedOut : Sending → List Handed
+handedOut answers.idle = []
+handedOut (answers.refused n) = []
+handedOut (answers.sent sequence payload) = as-sent (ownFrame sequence payload) ∷ []
+handedOut (answers.repeated sequence payload) = as-sent (ownFrame sequence payload) ∷ []
+handedOut (answers.dropped frame) = []
+
 abbrev pub handedIn : Given → List Handed
 handedIn (answers.took n answer reply packet) = handedBy answer
 handedIn answers.ticked = []
+handedIn (answers.outgoing answer output) = handedOut answer
 
 -- a frame that was closed, with buffers that have room
 module _ (names : List (List ℕ)) (l : Ledger) (reply packet : List ℕ) (reply-room : replyRoom ≤ length reply) (packet-room : packetRoom ≤ length packet) where
@@ -62,6 +72,10 @@ module _ (names : List (List ℕ)) (l : Ledger) (reply packet : List ℕ) (reply
   effect-handed none = refl
   effect-handed (some run) = frame-handed (frameOf run) (payload-bounded run)
 
+-- a frame of our own, with room for it
+abbrev SentOut : List ℕ → SenderStep → Type 0
+SentOut output s = sentAs (asSending (s .answer)) (putAt output 0 (s .output)) ≡ handedOut (s .answer)
+
 pub step-handed : (names : List (List ℕ)) (l : Ledger) (c : Call) → handedLeft (asLeft names (step l c .given)) ≡ handedIn (step l c .given)
 unfolding step
 step-handed names l (answers.piece bytes reply packet) =
@@ -70,3 +84,12 @@ step-handed names l (answers.piece bytes reply packet) =
     (λ short. refl)
     (λ reply-room packet-room. effect-handed names (withRun l (t .run)) reply packet reply-room packet-room (t .frame))
 step-handed names l answers.tick = refl
+step-handed names l (answers.send payload output) =
+    by-send (SentOut output) (l .sender) payload (length output) (λ n. refl)
+    (λ free few fits. ap (λ (bytes : List ℕ). as-sent bytes ∷ []) (put-first output (ownFrame (l .sender .next) payload) fits))
+step-handed names l (answers.timeout output) =
+    by-timeout (SentOut output) (l .sender) (length output) refl
+    (λ fits.
+    by-waiting (λ (s : SenderStep). length (s .output) ≤ length output → SentOut output s) (l .sender) (λ nothing few. refl)
+    (λ frame e few room. ap (λ (bytes : List ℕ). as-sent bytes ∷ []) (put-first output (ownFrame (frame .sequence) (frame .payload)) room))
+    (λ frame e many few. refl) fits)

@@ -12,25 +12,26 @@ use Rattle.ledger.specs.Ledger.{Ledger, start}
 use Rattle.ledger.specs.Frames as frames
 use Rattle.ledger.specs.Frames.{Turn, goes-on, closes, turn, Frame, frameOf}
 use Rattle.ledger.specs.Answers as answers
-use Rattle.ledger.specs.Answers.{WatchList, namesIn, Call, Answer}
+use Rattle.ledger.specs.Answers.{WatchList, namesIn, Call, Sending}
+use Rattle.ledger.specs.Sending.{timesOut}
 use Rattle.ledger.specs.Calls as calls
 use Rattle.ledger.specs.Calls.{repeated, closed, withRun}
 use Rattle.ledger.specs.Shown.{Left}
-use Rattle.ledger.specs.History.{Event, byte, minute, history, Handed, among, packetIn, packetsHanded, allHanded}
+use Rattle.ledger.specs.History.{Event, byte, minute, send, timeout, history, Handed, among, packetIn, packetsHanded, allHanded}
 use Rattle.ledger.specs.ClosedFrames.{behindTurn, marksFrom}
 use Rattle.ledger.specs.BoardEvents.{BoardEvent, behindFrame, boardEventsOf, boardEventsIn, packetsIn}
 use Rattle.ledger.proofs.LineLaws.{run-kept, repeats-last, read-sequence}
 use Rattle.ledger.proofs.Chain.{Begins, Chain}
 use Rattle.ledger.proofs.EveryList.{agreeing}
-use Rattle.ledger.proofs.ByEvents.{toldBy, atTurn, happens, toldInHistory}
+use Rattle.ledger.proofs.ByEvents.{Told, by-sender, toldBy, atTurn, happens, toldInHistory}
 use Rattle.ledger.proofs.ToldLaws.{handedWith, handed-append, among-append, told-handed, all-handed}
 use Rattle.ledger.proofs.SameHistory.{told-by}
 
 -- the packets that are told of
-abbrev toldUp : List Answer → List (List ℕ)
+abbrev toldUp : List Told → List (List ℕ)
 toldUp told = packetsHanded (handedWith told)
 
-told-up : (xs ys : List Answer) → toldUp (xs ++ ys) ≡ toldUp xs ++ toldUp ys
+told-up : (xs ys : List Told) → toldUp (xs ++ ys) ≡ toldUp xs ++ toldUp ys
 told-up xs ys = ap packetsHanded (handed-append xs ys) ∙ among-append packetIn (handedWith xs) (handedWith ys)
 
 -- a frame that was closed
@@ -48,10 +49,24 @@ frame-up l (frames.good sequence payload) rest = by-last (repeated (l .line .seq
     by-last false e =
         rw e (ap (λ (o : Option ℕ). payload ∷ packetsIn (rest o)) (sym (read-sequence l sequence (calls.readingBy l payload))))
 
+-- a frame of our own is no packet
+sent-up : (answer : Sending) → [] ≡ toldUp (by-sender answer ∷ [])
+unfolding handedWith among
+sent-up answers.idle = refl
+sent-up (answers.refused n) = refl
+sent-up (answers.sent sequence payload) = refl
+sent-up (answers.repeated sequence payload) = refl
+sent-up (answers.dropped frame) = refl
+
 history-up : (l : Ledger) (es : List Event) → packetsIn (boardEventsOf (l .line .sequence) (marksFrom (l .line .run) es)) ≡ toldUp (toldInHistory l es)
 unfolding marksFrom boardEventsOf packetsIn toldInHistory handedWith among
 history-up l [] = refl
 history-up l (minute ∷ es) = history-up (happens l minute .ledger) es
+history-up l (send payload ∷ es) = history-up (happens l (send payload) .ledger) es
+history-up l (timeout ∷ es) =
+    history-up (happens l timeout .ledger) es
+    ∙ ap (λ (ps : List (List ℕ)). ps ++ toldUp (toldInHistory (happens l timeout .ledger) es)) (sent-up (timesOut (l .sender) .answer))
+    ∙ sym (told-up (by-sender (timesOut (l .sender) .answer) ∷ []) (toldInHistory (happens l timeout .ledger) es))
 history-up l (byte b ∷ es) = by-turn (turn (l .line .run) b) (λ m. history-up m es)
   where
     by-turn : (t : Turn) → ((m : Ledger) → packetsIn (boardEventsOf (m .line .sequence) (marksFrom (m .line .run) es)) ≡ toldUp (toldInHistory m es))

@@ -4,19 +4,21 @@ use mathlib.Core.List.{List, [], _∷_, _++_, map, append-nil}
 use mathlib.Core.Option.{Option, some, none}
 use Prim.Native.Nat.{ℕ, suc, _-_, _≤_}
 use native.Mathlib.Omega.{arith}
-use lib.ListN.{take}
+use lib.ListN.{length, take}
 use lib.Seq.{take-nil}
 use Rattle.ledger.specs.Ledger.{Ledger}
 use Rattle.ledger.specs.Frames.{Turn, goes-on, closes, turn, Taken, afterTurn, taken, Frame, frameOf}
 use Rattle.ledger.specs.Answers as answers
 use Rattle.ledger.specs.Calls as calls
-use Rattle.ledger.specs.Answers.{Call, Given, Answer}
-use Rattle.ledger.specs.Calls.{effectOf, withRun, step, given, after}
-use Rattle.ledger.specs.Shown.{asLeft}
-use Rattle.ledger.specs.History.{Event, byte, eventsOf, history}
+use Rattle.ledger.specs.Answers.{Call, Sending, Given}
+use Rattle.ledger.specs.Sending.{SenderStep, timesOut}
+use Rattle.ledger.specs.Calls.{effectOf, withRun, senderStep, step, given, after}
+use Rattle.ledger.specs.Shown.{asSending, asLeft}
+use Rattle.ledger.specs.History.{Event, byte, timeout, unlessRefused, eventsOf, history}
 use Rattle.ledger.specs.ClosedFrames.{behindTurn, marksFrom, framesOf}
-use Rattle.ledger.proofs.ByEvents.{toldBy, atTurn, afterHistory, toldInHistory, history-append, told-append}
+use Rattle.ledger.proofs.ByEvents.{Told, by-sender, toldBy, atTurn, afterHistory, toldInHistory, history-append, told-append}
 use Rattle.ledger.proofs.RoomLaws.{by-room}
+use Rattle.ledger.proofs.SenderLaws.{by-send, by-waiting, by-timeout}
 
 -- the frames that a piece closed
 abbrev pub closedFrames : Option (List ℕ) → List Frame
@@ -75,15 +77,36 @@ piece-same (b ∷ bs) l n = by-turn (turn (l .line .run) b) refl (λ run. piece-
         }
 
 -- what a call tells
-abbrev pub toldIn : Given → List Answer
+abbrev pub sendingTold : Sending → List Told
+sendingTold answers.idle = by-sender answers.idle ∷ []
+sendingTold (answers.refused n) = []
+sendingTold (answers.sent sequence payload) = by-sender (answers.sent sequence payload) ∷ []
+sendingTold (answers.repeated sequence payload) = by-sender (answers.repeated sequence payload) ∷ []
+sendingTold (answers.dropped frame) = by-sender (answers.dropped frame) ∷ []
+
+abbrev pub toldIn : Given → List Told
 toldIn (answers.took n answer reply packet) = toldBy answer
 toldIn answers.ticked = []
+toldIn (answers.outgoing answer output) = sendingTold answer
 
 module _ (names : List (List ℕ)) where
   -- what a call does is what its part of the history does
   record SameStep (l : Ledger) (c : Call) (s : calls.Step) : Type 0 where
     ledger : s .ledger ≡ afterHistory l (eventsOf c (asLeft names (s .given)))
     told : toldIn (s .given) ≡ toldInHistory l (eventsOf c (asLeft names (s .given)))
+
+  -- a timeout that is not refused
+  record SameSending (l : Ledger) (s : SenderStep) : Type 0 where
+    events : unlessRefused (asSending (s .answer)) timeout ≡ timeout ∷ []
+    tells : sendingTold (s .answer) ≡ by-sender (s .answer) ∷ []
+
+  timed-out-same : (l : Ledger) (output : List ℕ) → SameStep l (answers.timeout output) (senderStep l (timesOut (l .sender)) output)
+  unfolding afterHistory toldInHistory
+  timed-out-same l output =
+      let same =
+      by-waiting (SameSending l) (l .sender) (λ nothing. record { events = refl; tells = refl }) (λ frame e few. record { events = refl; tells = refl })
+      (λ frame e many. record { events = refl; tells = refl }) in
+      record { ledger = rw (same .events); told = rw (same .events, same .tells) }
 
   step-same : (l : Ledger) (c : Call) → SameStep l c (step l c)
   unfolding step afterHistory toldInHistory
@@ -95,6 +118,13 @@ module _ (names : List (List ℕ)) where
       let all : taken (l .line .run) bytes 0 .count - 0 ≡ taken (l .line .run) bytes 0 .count = omega arith in
       record { ledger = sym (rw all at (same .ledger)); told = sym (rw all at (same .told)) })
   step-same l answers.tick = record { ledger = refl; told = refl }
+  step-same l (answers.send payload output) =
+      by-send (λ (s : SenderStep). SameStep l (answers.send payload output) (senderStep l s output)) (l .sender) payload (length output)
+      (λ n. record { ledger = refl; told = refl }) (λ free few fits. record { ledger = refl; told = refl })
+  step-same l (answers.timeout output) =
+      by-timeout (λ (s : SenderStep). SameStep l (answers.timeout output) (senderStep l s output)) (l .sender) (length output)
+      (record { ledger = refl; told = refl })
+      (λ fits. timed-out-same l output)
 
   -- the history of a list of calls, by what the ledger gives
   abbrev pub historyBy : Ledger → List Call → List Event
@@ -110,7 +140,7 @@ module _ (names : List (List ℕ)) where
       ∙ ap (λ (m : Ledger). afterHistory m (historyBy (step l c .ledger) cs)) (first .ledger)
       ∙ sym (history-append l (eventsOf c (asLeft names (step l c .given))) (historyBy (step l c .ledger) cs))
 
-  unfoldable pub toldOut : Ledger → List Call → List Answer
+  unfoldable pub toldOut : Ledger → List Call → List Told
   toldOut l [] = []
   toldOut l (c ∷ cs) = toldIn (step l c .given) ++ toldOut (step l c .ledger) cs
 
@@ -119,7 +149,7 @@ module _ (names : List (List ℕ)) where
   told-history l [] = refl
   told-history l (c ∷ cs) =
       let first = step-same l c in
-      ap₂ (λ (x y : List Answer). x ++ y) (first .told)
+      ap₂ (λ (x y : List Told). x ++ y) (first .told)
       (told-history (step l c .ledger) cs
       ∙ ap (λ (m : Ledger). toldInHistory m (historyBy (step l c .ledger) cs)) (first .ledger))
       ∙ sym (told-append l (eventsOf c (asLeft names (step l c .given))) (historyBy (step l c .ledger) cs))

@@ -12,7 +12,7 @@ use Rattle.ledger.specs.Frames as frames
 use Rattle.ledger.specs.Frames.{Turn, goes-on, closes, turn, Frame, frameOf}
 use Rattle.ledger.specs.Calls as calls
 use Rattle.ledger.specs.Calls.{repeated, closed, withRun}
-use Rattle.ledger.specs.History.{Event, byte, minute}
+use Rattle.ledger.specs.History.{Event, byte, minute, send, timeout}
 use Rattle.ledger.specs.ClosedFrames.{behindTurn, marksFrom}
 use Rattle.ledger.specs.BoardEvents.{BoardEvent, tick, packet, behindFrame, boardEventsOf}
 use Rattle.ledger.proofs.ByEvents.{atTurn, happens, afterHistory}
@@ -79,6 +79,8 @@ module _ (names : List (List ℕ)) where
       let next = happens l minute .ledger in
       let first = followed l next (tick ∷ []) named refl in
       history-followed next es (first .named) once ∙ followed-on (tick ∷ []) (boardEventsOf (l .line .sequence) (marksFrom (l .line .run) es)) (l .hives .entries)
+  history-followed l (send payload ∷ es) named once = history-followed (happens l (send payload) .ledger) es named once
+  history-followed l (timeout ∷ es) named once = history-followed (happens l timeout .ledger) es named once
   history-followed l (byte b ∷ es) named once = by-turn (turn (l .line .run) b) (λ m shown. history-followed m es shown once)
     where
       by-turn : (t : Turn)

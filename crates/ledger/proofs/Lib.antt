@@ -3,6 +3,8 @@ pub mod RunAgreement
 pub mod WalkAgreement
 pub mod CountAgreement
 pub mod RowAgreement
+pub mod SenderLaws
+pub mod SenderAgreement
 pub mod PacketAgreement
 pub mod FrameAgreement
 pub mod LineLaws
@@ -35,3 +37,10 @@ pub mod BrokenFrames
 pub mod ShortCalls
 pub mod RefusedPackets
 pub mod DamagedFrames
+pub mod SenderByHistory
+pub mod SenderSteps
+pub mod SentSequences
+pub mod SentAgain
+pub mod SentAccounted
+pub mod NeverLost
+pub mod RefusedEvents

@@ -14,6 +14,7 @@ use Rattle.ledger.specs.Frames as frames
 use Rattle.ledger.specs.Frames.{Frame}
 use Rattle.ledger.specs.Calls as calls
 use Rattle.ledger.specs.Calls.{repeated, closed}
+use Rattle.ledger.specs.OwnFrames.{senderBehindFrame}
 
 -- a frame leaves the run alone
 read-run-kept : (l : Ledger) (v : Verdict) → calls.afterReading l v .line .run ≡ l .line .run
@@ -29,6 +30,21 @@ run-kept l (frames.good sequence payload) = cases (calls.repeated (l .line .sequ
     cases : (t : Bool) → cond t (calls.repeatedFrame l sequence) (calls.newFrame l sequence payload) .ledger .line .run ≡ l .line .run
     cases true = refl
     cases false = read-run-kept (calls.afterNew l sequence) (calls.readingBy l payload)
+
+-- and only an acknowledgement concerns the sender
+read-sender-kept : (l : Ledger) (v : Verdict) → calls.afterReading l v .sender ≡ l .sender
+read-sender-kept l (reading.refused n) = refl
+read-sender-kept l (reading.endMark id) = refl
+read-sender-kept l (reading.update id name value) = refl
+
+pub sender-followed : (l : Ledger) (f : Frame) → closed l f .ledger .sender ≡ senderBehindFrame (l .sender) f
+sender-followed l (frames.refused n place) = refl
+sender-followed l (frames.acknowledgement sequence) = refl
+sender-followed l (frames.good sequence payload) = cases (calls.repeated (l .line .sequence) sequence)
+  where
+    cases : (t : Bool) → cond t (calls.repeatedFrame l sequence) (calls.newFrame l sequence payload) .ledger .sender ≡ l .sender
+    cases true = refl
+    cases false = read-sender-kept (calls.afterNew l sequence) (calls.readingBy l payload)
 
 -- whether a data frame is repeated at once, by the last sequence
 pub repeats : (last : Option ℕ) (sequence : ℕ) → last ≡ some sequence → (sequence ≡ 0 → ⊥) → repeated last sequence ≡ true

@@ -28,7 +28,7 @@ use Rattle.ledger.specs.Ledger.{Ledger, nameOf}
 use Rattle.ledger.specs.Answers as answers
 use Rattle.ledger.specs.Calls as calls
 use Rattle.ledger.specs.Calls.{Effect, afterNew, afterReading}
-use Rattle.ledger.specs.Shown.{asCounts, asEntry, asUpdated, asReading}
+use Rattle.ledger.specs.Shown.{asCounts, asSender, asEntry, asUpdated, asReading}
 use Rattle.ledger.proofs.CountAgreement.{count-new, count-unread}
 use Rattle.ledger.proofs.RowAgreement.{entries-updated, names-updated, names-shown, place-listed}
 use Rattle.ledger.proofs.FrameOutcomes.{asLast, Shows, Effects, EffectsOf}
@@ -59,15 +59,15 @@ module _ {count : ℕ} (names : List (List ℕ)) (fit : Fits names) (w : Walk) (
 
     abbrev AgreedBy : declared-reading.Reading → Verdict → Type 0
     AgreedBy r v =
-        Effects count names w (takeReading (received (callOf w fresh)) (length (acknowledgement sequence)) (length payload) r) (acknowledgement sequence) payload (effectBy v)
+        Effects count names w (takeReading (received (callOf w fresh)) (asSender (l .sender)) (length (acknowledgement sequence)) (length payload) r) (acknowledgement sequence) payload (effectBy v)
 
     -- one that has been read, by the link's state that it leaves
     read-agrees : (r : declared-reading.Reading) (v : Verdict) (state : Link) → countReading (callOf w fresh .link) (r .answer) ≡ state
         → r .answer ≡ asReading names v → state .content ≡ w .content → state .reader ≡ w .reader
         → state .last ≡ asLast (effectBy v .ledger .line .sequence) → state .counts ≡ asCounts (effectBy v .ledger .line .counts)
-        → Shows count names (effectBy v .ledger .hives .entries) (r .board) → AgreedBy r v
+        → effectBy v .ledger .sender ≡ l .sender → Shows count names (effectBy v .ledger .hives .entries) (r .board) → AgreedBy r v
     unfolding acknowledgement
-    read-agrees r v state leaves answer of-content of-reader of-last of-counts shows₁ =
+    read-agrees r v state leaves answer of-content of-reader of-last of-counts of-sender shows₁ =
         rw (leaves, answer)
         (record {
           answers = refl;
@@ -78,16 +78,17 @@ module _ {count : ℕ} (names : List (List ℕ)) (fit : Fits names) (w : Walk) (
           reader-is = of-reader;
           last-is = of-last;
           counts-are = of-counts;
+          sender-is = ap asSender (sym of-sender);
           shows = shows₁;
         })
 
     unread-agrees : (n : ℕ) → AgreedBy (record { board = board; answer = board-says.Refused n }) (reading.refused n)
     unread-agrees n =
         read-agrees _ (reading.refused n) (withUnreadPacket (callOf w fresh .link)) refl refl refl refl refl
-        (ap (countOf event.Unread) (count-new (l .line .counts)) ∙ count-unread (afterNew l sequence .line .counts)) shows₀
+        (ap (countOf event.Unread) (count-new (l .line .counts)) ∙ count-unread (afterNew l sequence .line .counts)) refl shows₀
 
     end-agrees : (id : ℕ) → AgreedBy (record { board = board; answer = board-says.EndMark id }) (reading.endMark id)
-    end-agrees id = read-agrees _ (reading.endMark id) (callOf w fresh .link) refl refl refl refl refl (count-new (l .line .counts)) shows₀
+    end-agrees id = read-agrees _ (reading.endMark id) (callOf w fresh .link) refl refl refl refl refl (count-new (l .line .counts)) refl shows₀
 
     -- the row of an update is its name's place in the watch list
     place-is : (name : List ℕ) → (t : There board name) → placeOf name names ≡ some (t .place)
@@ -102,7 +103,7 @@ module _ {count : ℕ} (names : List (List ℕ)) (fit : Fits names) (w : Walk) (
     update-agrees id name value t =
         let here = ap (asUpdated id) (place-is name t) in
         let stands = ap (λ (b : Board). placeOf name (rowNames b)) (sym (shows₀ .showing)) ∙ t .stands in
-        read-agrees _ (reading.update id name value) (callOf w fresh .link) refl (sym here) refl refl refl (count-new (l .line .counts))
+        read-agrees _ (reading.update id name value) (callOf w fresh .link) refl (sym here) refl refl refl (count-new (l .line .counts)) refl
         (record {
           showing =
               ap (updateBoard (t .place) value) (shows₀ .showing)
@@ -111,15 +112,15 @@ module _ {count : ℕ} (names : List (List ℕ)) (fit : Fits names) (w : Walk) (
           named = names-updated name value (l .hives .entries) ∙ shows₀ .named;
         })
 
-    pub new-agrees : EffectsOf count names board w fresh (calls.newFrame l sequence payload)
+    pub new-agrees : EffectsOf count names (asSender (l .sender)) board w fresh (calls.newFrame l sequence payload)
     new-agrees = by-verdict (readingOf (map nameOf (l .hives .entries)) payload) refl
       where
         by-row : (id : ℕ) (name : List ℕ) (value : ℤ) (t : There board name) → readingOf (watched board) payload ≡ reading.update id name value
-            → readingOf (map nameOf (l .hives .entries)) payload ≡ reading.update id name value → EffectsOf count names board w fresh (calls.newFrame l sequence payload)
+            → readingOf (map nameOf (l .hives .entries)) payload ≡ reading.update id name value → EffectsOf count names (asSender (l .sender)) board w fresh (calls.newFrame l sequence payload)
         by-row id name value t watching e =
             rw (read-update board payload id name value (t .place) watching (t .stands), e) (update-agrees id name value t)
 
-        by-verdict : (v : Verdict) → readingOf (map nameOf (l .hives .entries)) payload ≡ v → EffectsOf count names board w fresh (calls.newFrame l sequence payload)
+        by-verdict : (v : Verdict) → readingOf (map nameOf (l .hives .entries)) payload ≡ v → EffectsOf count names (asSender (l .sender)) board w fresh (calls.newFrame l sequence payload)
         by-verdict (reading.refused n) e =
             let watching = ap (λ (ns : List (List ℕ)). readingOf ns payload) watched-is ∙ e in
             rw (read-refused board payload n watching, e) (unread-agrees n)

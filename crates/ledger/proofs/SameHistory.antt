@@ -1,4 +1,4 @@
--- DEMAND 3, cuts of the byte stream do not matter: what the calls took and the ticks settle the ledger, so lists of calls with the same
+-- DEMAND 3, cuts of the byte stream do not matter: what the calls took, the ticks, the sends and the timeouts settle the ledger, so lists of calls with the same
 -- history are alike in all that they answered and handed out, in counts and board, and in all that comes behind.
 use mathlib.Core.Path.{_≡_, sym, ap, _∙_}
 use mathlib.Core.List.{List, map}
@@ -8,31 +8,34 @@ use Rattle.rows.specs.Entries.{boardShowing}
 use Rattle.rows.specs.Rows.{rowCount}
 use Rattle.display.specs.declared.Display.{Display}
 use Rattle.ledger.specs.Ledger.{Ledger, start}
-use Rattle.ledger.specs.Answers.{WatchList, namesIn, Call, Answer}
+use Rattle.ledger.specs.Answers.{WatchList, namesIn, Call}
 use Rattle.ledger.specs.Calls.{given, after}
-use Rattle.ledger.specs.Shown.{asCounts, asEntry, asAnswer, Left, asLeft}
+use Rattle.ledger.specs.Shown.{asCounts, asSender, asEntry, Left, asLeft}
 use Rattle.ledger.specs.History.{Event, history, allHanded, allAnswers}
 use Rattle.ledger.proofs.Chain.{Begins, Chain}
 use Rattle.ledger.proofs.EveryList.{chain-agrees, Agreeing, agreeing}
-use Rattle.ledger.proofs.ByEvents.{afterHistory, toldInHistory}
+use Rattle.ledger.proofs.ByEvents.{Told, afterHistory, toldInHistory}
 use Rattle.ledger.proofs.HistoryLaws.{after-history, toldOut, told-history}
-use Rattle.ledger.proofs.ToldLaws.{handedWith, all-handed, all-told}
+use Rattle.ledger.proofs.ToldLaws.{handedWith, asTold, all-handed, all-told}
 
 -- what further calls left of each
 pub record SameNext (more more₁ : List Left) (then then₁ : Display) : Type 0 where
   pub answered : more ≡ more₁
   pub counts : then .link .counts ≡ then₁ .link .counts
   pub board : then .board ≡ then₁ .board
+  pub sender : then .sender ≡ then₁ .sender
 
 -- two displays after a list of calls each: what the calls left, and what further calls leave
 pub record Alike (left left₁ : List Left) (end end₁ : Display) : Type 0 where
-  -- all answers in order, but "nothing" and refusal 7
+  -- all answers in order: of pieces all but "nothing" and refusal 7, of sends and timeouts all but refusals
   pub answers : allAnswers left ≡ allAnswers left₁
-  -- replies and packets in order, as they stand in the buffers
+  -- replies, frames of our own and packets in order, as they stand in the buffers
   pub handed : allHanded left ≡ allHanded left₁
   pub counts : end .link .counts ≡ end₁ .link .counts
   pub board : end .board ≡ end₁ .board
-  -- the same further calls are answered alike, one by one, leave the same in their buffers, and then counts and board are alike again
+  pub sender : end .sender ≡ end₁ .sender
+  -- the same further calls are answered alike, one by one, refused or not, leave the same in their buffers, and then counts, board and
+  -- sender are alike again
   pub next : (ds : List Call) (more more₁ : List Left) (then then₁ : Display) → Chain end ds more then → Chain end₁ ds more₁ then₁
       → SameNext more more₁ then then₁
 
@@ -66,7 +69,7 @@ module _ (names : List (List ℕ)) where
           answers =
               ap allAnswers (one .all .gives)
               ∙ all-told names (start names) cs
-              ∙ ap (λ (all : List Answer). map (asAnswer names) all) same-told
+              ∙ ap (λ (all : List Told). map (asTold names) all) same-told
               ∙ sym (ap allAnswers (two .all .gives) ∙ all-told names (start names) cs₁);
           handed =
               ap allHanded (one .all .gives)
@@ -81,6 +84,10 @@ module _ (names : List (List ℕ)) where
               one .all .agrees .shows .showing
               ∙ ap (λ (m : Ledger). boardShowing rowCount (map asEntry (m .hives .entries))) same-ledger
               ∙ sym (two .all .agrees .shows .showing);
+          sender =
+              one .all .agrees .sender-is
+              ∙ ap (λ (m : Ledger). asSender (m .sender)) same-ledger
+              ∙ sym (two .all .agrees .sender-is);
           next =
               λ ds more more₁ then then₁ calls calls₁.
               let here = chain-agrees names (one .fit) (after (start names) cs) calls (one .all .agrees) in
@@ -95,11 +102,16 @@ module _ (names : List (List ℕ)) where
                     here .agrees .shows .showing
                     ∙ ap (λ (m : Ledger). boardShowing rowCount (map asEntry (after m ds .hives .entries))) same-ledger
                     ∙ sym (there .agrees .shows .showing);
+                sender =
+                    here .agrees .sender-is
+                    ∙ ap (λ (m : Ledger). asSender (after m ds .sender)) same-ledger
+                    ∙ sym (there .agrees .sender-is);
               };
         }
 
--- THEOREM. Lists of calls from fresh starts with the same names, whose bytes taken and ticks are the same in order, are alike, wherever
--- the pieces were cut and whichever calls among them were refused.
+-- THEOREM. Lists of calls from fresh starts with the same names, whose bytes taken, ticks, sends and timeouts are the same in order, are
+-- alike, wherever the pieces were cut and whichever calls among them were refused; and so is the next event: whether it is refused, and
+-- what it drops and reports.
 pub same-history : (names : List (List ℕ)) (w w₁ : WatchList) → namesIn w ≡ some names → namesIn w₁ ≡ some names
     → (d d₁ : Display) → Begins w d → Begins w₁ d₁ → (cs cs₁ : List Call) (left left₁ : List Left) (end end₁ : Display)
     → Chain d cs left end → Chain d₁ cs₁ left₁ end₁ → history cs left ≡ history cs₁ left₁ → Alike left left₁ end end₁

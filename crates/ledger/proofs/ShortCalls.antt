@@ -18,7 +18,7 @@ use Rattle.ledger.proofs.Chain.{Chain, done, receives, received}
 use Rattle.ledger.proofs.RoomLaws.{call-short}
 
 short-done : (d : Display) (reply packet : List ℕ) (result : Received) (reply₁ packet₁ : List ℕ)
-    → DisplaysAs (outcomeOf (d .board) (shortCall (d .link))) reply packet result reply₁ packet₁
+    → DisplaysAs (outcomeOf (d .sender) (d .board) (shortCall (d .link))) reply packet result reply₁ packet₁
     → (took (result .taken) (result .answer) reply₁ packet₁ ≡ took 0 (Refused shortOutput noPlace) reply packet) × (result .display ≡ d)
 short-done d reply packet result reply₁ packet₁ does = rw (does .answers, does .replied, does .handed-out) (refl, refl)
 

@@ -7,7 +7,7 @@ use mathlib.Core.Option.{Option, some, none}
 use Rattle.ledger.specs.Frames.{Frame, refused, acknowledgement, good}
 use Rattle.ledger.specs.Calls.{repeated}
 use Rattle.ledger.specs.History.{Event}
-use Rattle.ledger.specs.ClosedFrames.{Mark, passed, frame, marksIn}
+use Rattle.ledger.specs.ClosedFrames.{Mark, passed, frame, sent, timed-out, marksIn}
 
 pub data BoardEvent : Type 0 where
   tick : BoardEvent
@@ -27,6 +27,8 @@ unfoldable pub boardEventsOf : Option ℕ → List Mark → List BoardEvent
 boardEventsOf last [] = []
 boardEventsOf last (passed ∷ marks) = tick ∷ boardEventsOf last marks
 boardEventsOf last (frame f ∷ marks) = behindFrame f last (λ last₁. boardEventsOf last₁ marks)
+boardEventsOf last (sent payload ∷ marks) = boardEventsOf last marks
+boardEventsOf last (timed-out ∷ marks) = boardEventsOf last marks
 
 -- at first no data frame came
 abbrev pub boardEventsIn : List Event → List BoardEvent

@@ -7,14 +7,15 @@ use lib.Dec.{eqb, ltb}
 use lib.ListN.{length}
 use Rattle.refusals.specs.Numbers.{shortOutput}
 use Rattle.slices.specs.Put.{putAt}
-use Rattle.frame.specs.Content.{noPlace}
+use Rattle.frame.specs.Content.{dataType, acknowledgementType, noPlace}
 use Rattle.frame.specs.Writing as writing
 use Rattle.board.specs.Reading as reading
 use Rattle.board.specs.Reading.{Verdict, readingOf}
-use Rattle.ledger.specs.Ledger.{Counts, Ledger, withLine, withEntries, nameOf, plusNew, plusAgain, plusHeard, plusUnread, plusRefused, updated, olderEntry}
-use Rattle.ledger.specs.Answers.{Call, piece, tick, Answer, nothing, refused, heard, again, new, Given, took, ticked}
+use Rattle.ledger.specs.Ledger.{Counts, Ledger, withLine, withSender, withEntries, nameOf, plusNew, plusAgain, plusHeard, plusUnread, plusRefused, updated, olderEntry}
+use Rattle.ledger.specs.Answers.{Call, piece, tick, send, timeout, Answer, nothing, refused, heard, again, new, Given, took, ticked, outgoing}
+use Rattle.ledger.specs.Sending.{SenderStep, acknowledged, sendStep, timeoutStep}
 use Rattle.ledger.specs.Frames as frames
-use Rattle.ledger.specs.Frames.{Frame, Taken, taken, acknowledgementType, frameOf}
+use Rattle.ledger.specs.Frames.{Frame, Taken, taken, frameOf}
 
 -- what a frame does: the ledger after it, the answer, and the bytes put at the start of the reply and of the packet buffer
 pub record Effect : Type 0 where
@@ -36,11 +37,11 @@ refusedFrame l n place =
       packet = [];
     }
 
--- type 02: heard plus 1
+-- type 02: heard plus 1. 02, C-13: one of its sequence frees the frame that our sender holds.
 abbrev pub heardFrame : Ledger → ℕ → Effect
 heardFrame l sequence =
     record {
-      ledger = withCounts l (plusHeard (l .line .counts));
+      ledger = withSender (withCounts l (plusHeard (l .line .counts))) (acknowledged sequence (l .sender));
       answer = heard sequence;
       reply = [];
       packet = [];
@@ -130,10 +131,16 @@ packetRoom = 383
 abbrev pub shortStep : Ledger → List ℕ → List ℕ → Step
 shortStep l reply packet = record { given = took 0 (refused shortOutput noPlace) reply packet; ledger = l }
 
+-- 02, C-13: a send and a timeout concern the sender alone; what goes out stands at the start of the output
+abbrev pub senderStep : Ledger → SenderStep → List ℕ → Step
+senderStep l s output = record { given = outgoing (s .answer) (putAt output 0 (s .output)); ledger = withSender l (s .sender) }
+
 unfoldable pub step : Ledger → Call → Step
 step l (piece bytes reply packet) =
     cond (ltb (length reply) replyRoom || ltb (length packet) packetRoom) (shortStep l reply packet) (pieceStep l (taken (l .line .run) bytes 0) reply packet)
 step l tick = record { given = ticked; ledger = afterTick l }
+step l (send payload output) = senderStep l (sendStep (l .sender) payload (length output)) output
+step l (timeout output) = senderStep l (timeoutStep (l .sender) (length output)) output
 
 -- the whole list of calls: all that is given, in order, and the ledger afterwards
 unfoldable pub given : Ledger → List Call → List Given

@@ -5,12 +5,14 @@ use mathlib.Core.Path.{_≡_}
 use mathlib.Core.List.{List, [], _∷_, _++_}
 use mathlib.Core.Option.{Option, some, none}
 use Rattle.ledger.specs.Frames.{Turn, goes-on, closes, turn, Frame, refused, acknowledgement, good, frameOf}
-use Rattle.ledger.specs.History.{Event, byte, minute}
+use Rattle.ledger.specs.History.{Event, byte, minute, send, timeout}
 
--- what a history comes to: minutes, and the frames that were closed
+-- what a history comes to: minutes, the frames that were closed, and our sends and timeouts
 pub data Mark : Type 0 where
   passed : Mark
   frame : Frame → Mark
+  sent : List ℕ → Mark
+  timed-out : Mark
 
 -- a byte goes on with the run, or closes a frame and begins an empty run
 abbrev pub behindTurn : Turn → (Option (List ℕ) → List Mark) → List Mark
@@ -21,6 +23,8 @@ unfoldable pub marksFrom : Option (List ℕ) → List Event → List Mark
 marksFrom run [] = []
 marksFrom run (byte b ∷ events) = behindTurn (turn run b) (λ run₁. marksFrom run₁ events)
 marksFrom run (minute ∷ events) = passed ∷ marksFrom run events
+marksFrom run (send payload ∷ events) = sent payload ∷ marksFrom run events
+marksFrom run (timeout ∷ events) = timed-out ∷ marksFrom run events
 
 -- at first there is no run
 abbrev pub marksIn : List Event → List Mark
@@ -31,6 +35,8 @@ unfoldable pub framesOf : List Mark → List Frame
 framesOf [] = []
 framesOf (passed ∷ marks) = framesOf marks
 framesOf (frame f ∷ marks) = f ∷ framesOf marks
+framesOf (sent payload ∷ marks) = framesOf marks
+framesOf (timed-out ∷ marks) = framesOf marks
 
 abbrev pub framesIn : List Event → List Frame
 framesIn events = framesOf (marksIn events)

@@ -1,4 +1,5 @@
--- 01, The ledger: what it holds. It is fed only the watch list, the pieces, their buffers and the ticks.
+-- 01, The ledger: what it holds. It is fed only the watch list, the pieces, their buffers and the ticks; with 02, C-13, the sends and the
+-- timeouts.
 use Prim.Native.Nat.{ℕ, zero, suc}
 use mathlib.Core.Bool.{cond}
 use mathlib.Core.List.{List, [], _∷_, map}
@@ -32,20 +33,35 @@ pub record Line : Type 0 where
   pub sequence : Option ℕ
   pub counts : Counts
 
+-- 02, C-13: the frame that waits for its acknowledgement, and how often it was sent again
+pub record Held : Type 0 where
+  pub sequence : ℕ
+  pub payload : List ℕ
+  pub repeats : ℕ
+
+-- what it holds of our sender: the sequence of the next frame, and the frame that waits, if one does
+pub record Sender : Type 0 where
+  pub next : ℕ
+  pub held : Option Held
+
 -- what it holds of the hives: an entry for each watched name
 pub record Hives : Type 0 where
   pub entries : List Entry
 
 pub record Ledger : Type 0 where
   pub line : Line
+  pub sender : Sender
   pub hives : Hives
 
 -- the setters: of each part, of the hives' entries, and of an entry's last update
 abbrev pub withLine : Ledger → Line → Ledger
-withLine l line = record { line = line; hives = l .hives }
+withLine l line = record { line = line; sender = l .sender; hives = l .hives }
+
+abbrev pub withSender : Ledger → Sender → Ledger
+withSender l sender = record { line = l .line; sender = sender; hives = l .hives }
 
 abbrev pub withHives : Ledger → Hives → Ledger
-withHives l hives = record { line = l .line; hives = hives }
+withHives l hives = record { line = l .line; sender = l .sender; hives = hives }
 
 abbrev pub withEntries : Ledger → List Entry → Ledger
 withEntries l entries = withHives l (record { entries = entries })
@@ -53,9 +69,12 @@ withEntries l entries = withHives l (record { entries = entries })
 abbrev pub withLast : Entry → Option Update → Entry
 withLast entry last = record { name = entry .name; last = last }
 
--- at first the counts are 0 and the rest is none
+-- at first the counts are 0 and the rest is none; our first frame has sequence 0
 abbrev pub noCounts : Counts
 noCounts = record { new = 0; again = 0; heard = 0; unread = 0; refused = replicate 6 0 }
+
+abbrev pub noneSent : Sender
+noneSent = record { next = 0; held = none }
 
 abbrev pub unheard : List ℕ → Entry
 unheard name = record { name = name; last = none }
@@ -64,6 +83,7 @@ abbrev pub start : List (List ℕ) → Ledger
 start names =
     record {
       line = record { run = none; sequence = none; counts = noCounts };
+      sender = noneSent;
       hives = record { entries = map unheard names };
     }
 

@@ -1,9 +1,12 @@
 pub mod Ledger
 pub mod Frames
 pub mod Answers
+pub mod Sending
 pub mod Calls
 pub mod Shown
 pub mod History
 pub mod ClosedFrames
 pub mod BoardEvents
+pub mod OwnFrames
+pub mod SentFrames
 pub mod LastAccepted

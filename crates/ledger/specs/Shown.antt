@@ -14,9 +14,15 @@ use Rattle.board.specs.Reading as reading
 use Rattle.board.specs.Reading.{Verdict}
 use Rattle.board.specs.declared.reading.Answer as board-answer
 use Rattle.link.specs.declared.counts.Counts as link-counts
+use Rattle.sender.specs.State.{payloadOf, noPayload}
+use Rattle.sender.specs.declared.state.Answer as sender-answer
+use Rattle.sender.specs.declared.state.Held as sender-held
+use Rattle.sender.specs.declared.state.Payload.{Payload}
+use Rattle.sender.specs.declared.state.Sender as sender
 use Rattle.display.specs.declared.Answer as display-answer
-use Rattle.ledger.specs.Ledger.{Counts, Entry, Row, never, current, silent, rowOf}
+use Rattle.ledger.specs.Ledger.{Counts, Held, Sender, Entry, Row, never, current, silent, rowOf}
 use Rattle.ledger.specs.Answers as answers
+use Rattle.ledger.specs.Sending.{ownFrame}
 use Rattle.ledger.specs.Calls.{answerTo}
 
 -- 01, The shape we want: the value equals the history's count modulo 65,536
@@ -37,6 +43,18 @@ abbrev pub asState : Row → State
 asState never = Never
 asState (current value age) = Current value age
 asState silent = Silent
+
+-- 02, C-13: what the sender holds; where it holds nothing its room is empty
+abbrev pub asHeld : Option Held → sender-held.Held
+asHeld none = sender-held.the-variants.Nothing
+asHeld (some frame) = sender-held.the-variants.Frame (frame .sequence) (frame .repeats)
+
+abbrev pub asPayload : Option Held → Payload
+asPayload none = noPayload
+asPayload (some frame) = payloadOf (frame .payload)
+
+abbrev pub asSender : Sender → sender.Sender
+asSender s = record { next = s .next; held = asHeld (s .held); payload = asPayload (s .held) }
 
 -- a name with what its row shows
 abbrev pub asEntry : Entry → shown.Entry
@@ -60,14 +78,25 @@ asAnswer names (answers.again sequence) = display-answer.the-variants.Again (len
 asAnswer names (answers.new sequence payload verdict) =
     display-answer.the-variants.New (length (answerTo sequence)) (length payload) (asReading names verdict)
 
--- what a call left: the bytes taken, the answer, and the bytes in the two buffers; or nothing, of a tick
+-- of a frame that goes out its length is told, of one that was dropped its sequence
+abbrev pub asSending : answers.Sending → sender-answer.Answer
+asSending answers.idle = sender-answer.the-variants.Nothing
+asSending (answers.refused n) = sender-answer.the-variants.Refused n
+asSending (answers.sent sequence payload) = sender-answer.the-variants.Sent sequence (length (ownFrame sequence payload))
+asSending (answers.repeated sequence payload) = sender-answer.the-variants.Repeated sequence (length (ownFrame sequence payload))
+asSending (answers.dropped frame) = sender-answer.the-variants.Dropped (frame .sequence)
+
+-- what a call left: the bytes taken, the answer, and the bytes in the two buffers; nothing, of a tick; or the answer and the bytes in the
+-- output
 pub data Left : Type 0 where
   took : ℕ → display-answer.Answer → List ℕ → List ℕ → Left
   ticked : Left
+  outgoing : sender-answer.Answer → List ℕ → Left
 
 abbrev pub asLeft : List (List ℕ) → answers.Given → Left
 asLeft names (answers.took n answer reply packet) = took n (asAnswer names answer) reply packet
 asLeft names answers.ticked = ticked
+asLeft names (answers.outgoing answer output) = outgoing (asSending answer) output
 
 -- the row at a place of the board
 abbrev pub rowAt : Board → ℕ → row.Row

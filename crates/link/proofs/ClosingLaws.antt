@@ -15,14 +15,14 @@ use Rattle.slices.specs.Written.{written, WritesAs}
 use Rattle.slices.specs.declared.Written as declared
 use Rattle.crc.specs.Crc.{linkStart, crcOf}
 use Rattle.frame.specs.Stuffing.{stuff}
-use Rattle.frame.specs.Content.{frame, refused, noPlace, contentOf, judged}
+use Rattle.frame.specs.Content.{dataType, acknowledgementType, frame, refused, noPlace, contentOf, judged}
 use Rattle.frame.specs.Writing.{writeFrame}
 use Rattle.frame.proofs.StuffLaws.{length-stuff}
 use Rattle.frame.proofs.WriteLaws.{length-framed, content-room, payload-allowed}
 use Rattle.link.specs.declared.counts.Counts.{Counts}
 use Rattle.link.specs.declared.receiver.Last.{Last}
 use Rattle.link.specs.declared.closing.Closed.{Closed}
-use Rattle.link.specs.Closing.{dataType, acknowledgementType, replyRoom, acknowledgement, repeats, Outcome, refusedFrame, acknowledgementFrame, againFrame, newFrame, dataFrame, frameOutcome}
+use Rattle.link.specs.Closing.{replyRoom, acknowledgement, repeats, Outcome, refusedFrame, acknowledgementFrame, againFrame, newFrame, dataFrame, frameOutcome}
 use Rattle.link.specs.Steps.{closedBy, ClosesAs, AcknowledgesAs}
 
 -- of an acknowledgement's four bytes of content the type is not escaped

@@ -6,7 +6,7 @@ use lib.Dec.{eqb}
 use lib.ListN.{length, take}
 use Rattle.refusals.specs.Numbers.{unknownType, loadedAcknowledgement}
 use Rattle.frame.specs.Content as content
-use Rattle.frame.specs.Content.{noPlace, judged}
+use Rattle.frame.specs.Content.{dataType, acknowledgementType, noPlace, judged}
 use Rattle.frame.specs.Writing.{frameOf}
 use Rattle.link.specs.declared.counts.Counts.{Counts}
 use Rattle.link.specs.declared.counts.Event.the-variants as event
@@ -17,12 +17,6 @@ use Rattle.link.specs.declared.receiver.Last.the-variants.{None, Sequenc
 use Rattle.link.specs.declared.receiver.Answer.{Answer}
 use Rattle.link.specs.declared.receiver.Answer.the-variants as says
 use Rattle.link.specs.Counts.{countOf}
-
-abbrev pub dataType : ℕ
-dataType = 0x01
-
-abbrev pub acknowledgementType : ℕ
-acknowledgementType = 0x02
 
 -- a reply buffer has at least 9 bytes: an acknowledgement's six, and three that may be escaped
 abbrev pub replyRoom : ℕ

@@ -6,6 +6,8 @@ use crate::data::take_data;
 use crate::reader::Ended;
 use crate::receiver::Answer;
 use crate::receiver::Last;
+use frame::ACKNOWLEDGEMENT;
+use frame::DATA;
 use frame::HEADER_SIZE;
 use frame::NO_PLACE;
 use frame::content::FrameRead;
@@ -17,11 +19,6 @@ ghost use Prim.Native.Nat.{_≤_};
 ghost use lib.ListN.{length};
 ghost use Rattle.link.specs.Closing.{replyRoom, refusedFrame, acknowledgementFrame, frameOutcome, closeOf};
 ghost use Rattle.link.specs.Steps.{closedBy, ClosesAs};
-
-// What the papers call a frame's type is `kind` here and in the frame crate.
-pub const DATA: u8 = 0x01;
-
-pub const ACKNOWLEDGEMENT: u8 = 0x02;
 
 // What a closed frame leaves of the link's state, and its answer.
 pub struct Closed {

@@ -1,11 +1,11 @@
 // A data frame at its closing flag: it is answered, and handed out unless it came again.
-use crate::closing::ACKNOWLEDGEMENT;
 use crate::closing::Closed;
 use crate::counts::Counts;
 use crate::counts::Event;
 use crate::counts::count;
 use crate::receiver::Answer;
 use crate::receiver::Last;
+use frame::ACKNOWLEDGEMENT;
 use frame::writer::Written;
 use frame::writer::write_frame;
 ghost use mathlib.Core.Path.{_≡_};

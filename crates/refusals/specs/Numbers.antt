@@ -97,6 +97,10 @@ badStuffing = 23
 abbrev pub otherCheck : ℕ
 otherCheck = 24
 
+-- 02, C-13: a frame is still waiting
+abbrev pub frameWaiting : ℕ
+frameWaiting = 25
+
 -- 02, C-21: data to send while RESET ACK is awaited
 abbrev pub resetAckAwaited : ℕ
 resetAckAwaited = 28

@@ -74,6 +74,9 @@ pub const BAD_STUFFING: u8 = 23;
 // The check bytes of an ASHv3 frame are other than the writer's.
 pub const OTHER_CHECK: u8 = 24;
 
+// A frame to send while one is still waiting for its acknowledgement.
+pub const FRAME_WAITING: u8 = 25;
+
 // Data to send while the answer to our RESET is awaited.
 pub const RESET_ACK_AWAITED: u8 = 28;
 

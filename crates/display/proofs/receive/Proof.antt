@@ -1,5 +1,5 @@
 -- `display::receive` meets its contract: each answer of the link is passed on, and a new packet is what the board reads, since the
--- link put it whole at the start of the packet buffer.
+-- link put it whole at the start of the packet buffer; an acknowledgement that was heard goes to the sender.
 use mathlib.Core.Path.{_≡_, refl, sym, ap, _∙_}
 use Prim.Native.Nat.{_≤_}
 use native.Mathlib.Omega.{arith}
@@ -9,7 +9,9 @@ use Rattle.link.specs.Receiving.{Call, receiveOf}
 use Rattle.link.specs.declared.receiver.Answer as link-answer
 use Rattle.link.specs.declared.receiver.Received as link-received
 use Rattle.display.specs.Display.{keepBoard, received, resultOf, outcomeOf, receivePiece, DisplaysAs}
+use Rattle.sender.specs.declared.state.Sender.{Sender}
 use Rattle.display.specs.declared.Answer.{Answer}
+use Rattle.display.specs.declared.Answer.the-variants.{Heard}
 use Rattle.display.specs.declared.Received.{Received}
 use Rattle.display.proofs.LengthLaws.{whole-link}
 use Rattle.display.proofs.HandedLaws.{Handed, receive-handed, packet-part}
@@ -26,7 +28,7 @@ enum-known-answer c = search needs
 
 -- where the display has been taken apart, and where the function began
 abbrev apart : tie.After-receive → tie.After-before2
-apart c = c .before .before .before .before
+apart c = c .before .before .before .before .before
 
 abbrev start : tie.After-receive → tie.Start
 start c = apart c .before .before .before .before
@@ -45,16 +47,18 @@ abbrev at-match : tie.After-slice-known4 → tie.After-receive
 at-match c = c .before .before .before .before
 
 -- an answer without a new packet is passed on with the board as it was
-passed : (c : tie.After-slice-known4) (answer : link-answer.Answer) (said : Answer) (result : Received)
+passed : (c : tie.After-slice-known4) (answer : link-answer.Answer) (behind : Sender) (said : Answer) (result : Received)
     → at-match c .receive .result .answer ≡ answer
-    → resultOf answer (start (at-match c) .args .display .board) (call (at-match c))
-    ≡ keepBoard (received (call (at-match c))) (start (at-match c) .args .display .board) said
-    → result ≡ keepBoard (at-match c .receive .result) (start (at-match c) .args .display .board) said
-    → DisplaysAs (outcomeOf (start (at-match c) .args .display .board) (call (at-match c))) (start (at-match c) .args .reply .now)
+    → resultOf answer (start (at-match c) .args .display .sender) (start (at-match c) .args .display .board) (call (at-match c))
+    ≡ keepBoard (received (call (at-match c))) behind (start (at-match c) .args .display .board) said
+    → result ≡ keepBoard (at-match c .receive .result) behind (start (at-match c) .args .display .board) said
+    → DisplaysAs (outcomeOf (start (at-match c) .args .display .sender) (start (at-match c) .args .display .board) (call (at-match c)))
+    (start (at-match c) .args .reply .now)
     (start (at-match c) .args .packet .now) result (at-match c .receive .last .1 .1 .0) (at-match c .receive .last .1 .1 .1 .0)
-passed c answer said result told same is =
+passed c answer behind said result told same is =
     let at = at-match c in
-    kept (start at .args .display .board) (call at) _ _ _ _ _ _ (at .receive .ensures) answer said (answered at ∙ told) same is
+    let d = start at .args .display in
+    kept (d .sender) (d .board) (call at) _ _ _ _ _ _ (at .receive .ensures) answer behind said (answered at ∙ told) same is
 
 abbrev at-receive : tie.After-answer → tie.After-receive
 at-receive c = at-match (c .before .before)
@@ -105,6 +109,9 @@ enum-known-answer-3 c = search needs
 keep-requires-3 : tie.Need-keep-requires-3
 keep-requires-3 c κs = search needs
 
+acknowledge-requires : tie.Need-acknowledge-requires
+acknowledge-requires c κs = search needs
+
 enum-known-answer-4 : tie.Need-enum-known-answer-4
 enum-known-answer-4 c = search needs
 
@@ -123,7 +130,7 @@ returns c =
     let at-answer = c .before .before .before .before in
     let at = at-receive at-answer in
     let part = packet-part _ _ (call at .packet) _ (handed-at at-answer) (at .receive .ensures .handed-out) in
-    handed-up (start at .args .display .board) (call at) _ _ _ _ _ _ (at .receive .ensures) _ _ _
+    handed-up (start at .args .display .sender) (start at .args .display .board) (call at) _ _ _ _ _ _ (at .receive .ensures) _ _ _
     (answered at ∙ at-answer .answer .given .1) (rw part at (c .before .read .ensures)) (c .hand-up .ensures)
 
 same-length-3 : tie.Need-same-length-3
@@ -136,7 +143,7 @@ returns-2 : tie.Need-returns-2
 unfolding receivePiece
 returns-2 c =
     let told = c .before in
-    passed (told .before .before) _ _ _ (told .enum-told .given .1) refl (c .keep .ensures)
+    passed (told .before .before) _ _ _ _ (told .enum-told .given .1) refl (c .keep .ensures)
 
 same-length-5 : tie.Need-same-length-5
 same-length-5 c = search needs
@@ -148,7 +155,7 @@ returns-3 : tie.Need-returns-3
 unfolding receivePiece
 returns-3 c =
     let told = c .before .before in
-    passed (told .before .before) _ _ _ (told .answer2 .given .1) refl (c .keep2 .ensures)
+    passed (told .before .before) _ _ _ _ (told .answer2 .given .1) refl (c .keep2 .ensures)
 
 same-length-7 : tie.Need-same-length-7
 same-length-7 c = search needs
@@ -159,8 +166,12 @@ same-length-8 c = search needs
 returns-4 : tie.Need-returns-4
 unfolding receivePiece
 returns-4 c =
-    let told = c .before .before in
-    passed (told .before .before) _ _ _ (told .answer3 .given .1) refl (c .keep3 .ensures)
+    let heard = c .before in
+    let told = heard .before .before in
+    let at = at-match (told .before .before) in
+    let sequence = told .answer3 .given .0 .0 in
+    let freed = ap (λ (s : Sender). keepBoard (at .receive .result) s (start at .args .display .board) (Heard sequence)) (heard .acknowledge .ensures) in
+    passed (told .before .before) _ _ _ _ (told .answer3 .given .1) refl (c .keep3 .ensures ∙ freed)
 
 same-length-9 : tie.Need-same-length-9
 same-length-9 c = search needs
@@ -172,7 +183,7 @@ returns-5 : tie.Need-returns-5
 unfolding receivePiece
 returns-5 c =
     let told = c .before .before in
-    passed (told .before .before) _ _ _ (told .answer4 .given .1) refl (c .keep4 .ensures)
+    passed (told .before .before) _ _ _ _ (told .answer4 .given .1) refl (c .keep4 .ensures)
 
 pub receive-spec : {M : Type 1} → statement M
 receive-spec =
@@ -189,6 +200,7 @@ receive-spec =
     enum-known-answer-2
     keep-requires-2
     enum-known-answer-3
+    acknowledge-requires
     keep-requires-3
     enum-known-answer-4
     keep-requires-4

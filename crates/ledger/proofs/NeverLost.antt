@@ -1,0 +1,96 @@
+-- 02, C-13, in the owner's words: a frame that was sent is sent again at most twice, and is at any time held, acknowledged or reported as
+-- dropped, never lost silently. The ledger holds the frame from its send on, and the sender is the ledger's.
+use mathlib.Core.Path.{_≡_, refl, sym, ap, _∙_}
+use mathlib.Core.List.{List, [], _∷_, map}
+use mathlib.Core.Option.{Option, some}
+use Prim.Native.Nat.{ℕ, _≤_}
+use native.Mathlib.Omega.{arith}
+use lib.ListN.{length, take}
+use Rattle.slices.proofs.Impossible.{impossible}
+use Rattle.slices.specs.Put.{putAt}
+use Rattle.slices.proofs.PutLaws.{put-first}
+use Rattle.frame.specs.Content.{payloadMax}
+use Rattle.sender.specs.State.{kept}
+use Rattle.sender.specs.declared.state.Answer.the-variants.{Sent}
+use Rattle.sender.specs.declared.state.Held.the-variants as sender-held
+use Rattle.sender.specs.declared.state.Sender as sender
+use Rattle.display.specs.declared.Display.{Display}
+use Rattle.ledger.specs.Ledger.{Held, Ledger, start}
+use Rattle.ledger.specs.Answers as answers
+use Rattle.ledger.specs.Answers.{WatchList, namesIn, Call}
+use Rattle.ledger.specs.Sending.{SenderStep, ownFrame, sendStep}
+use Rattle.ledger.specs.Calls.{step, given, after, senderStep}
+use Rattle.ledger.specs.Shown.{asSender, asSending, Left, outgoing, asLeft}
+use Rattle.ledger.specs.SentFrames as fate
+use Rattle.ledger.specs.SentFrames.{Fate, fateOf, sentAgain}
+use Rattle.ledger.proofs.Chain.{Begins, Chain}
+use Rattle.ledger.proofs.EveryList.{chain-agrees, Agreeing, agreeing, next-call}
+use Rattle.ledger.proofs.SenderLaws.{by-send}
+use Rattle.ledger.proofs.SenderAgreement.{kept-whole}
+use Rattle.ledger.proofs.SentAccounted.{Accounted, accounted}
+use Rattle.ledger.proofs.SentAgain.{Again, again-given}
+
+-- what each fate says of the sender: it holds the frame, so often sent again; or the frame was acknowledged after at most two repeats; or
+-- it was dropped after two
+abbrev pub AccountedFor : ℕ → List ℕ → Fate → sender.Sender → Type 0
+AccountedFor sequence payload (fate.held repeats) s = (repeats ≤ 2) × ((s .held ≡ sender-held.Frame sequence repeats) × (kept (s .payload) ≡ payload))
+AccountedFor sequence payload (fate.acknowledged repeats) s = repeats ≤ 2
+AccountedFor sequence payload (fate.dropped repeats) s = repeats ≡ 2
+
+-- a frame that was sent, and all that the calls behind it left
+pub record NeverLost (sequence : ℕ) (payload frame : List ℕ) (since : List Left) (end : Display) : Type 0 where
+  -- it is of type 01, with its sequence and payload
+  pub frame-is : frame ≡ ownFrame sequence payload
+  -- it is held, acknowledged, or reported as dropped
+  pub accounted-for : AccountedFor sequence payload (fateOf sequence 0 since) (end .sender)
+  -- it is sent again at most twice, and each time the same, before the next frame is sent
+  pub again : Again frame 0 (sentAgain since)
+
+-- an accepted send, by the ledger
+record Accepted (l : Ledger) (payload output : List ℕ) (sequence size : ℕ) (output₁ : List ℕ) (s : SenderStep) : Type 0 where
+  number : sequence ≡ l .sender .next
+  short : length payload ≤ payloadMax
+  holds : s .sender .held ≡ some (record { sequence = sequence; payload = payload; repeats = 0 })
+  frame-is : take size output₁ ≡ ownFrame sequence payload
+
+send-accepted : (l : Ledger) (payload output : List ℕ) (sequence size : ℕ) (output₁ : List ℕ)
+    → outgoing (Sent sequence size) output₁ ≡ outgoing (asSending (sendStep (l .sender) payload (length output) .answer)) (putAt output 0 (sendStep (l .sender) payload (length output) .output))
+    → Accepted l payload output sequence size output₁ (sendStep (l .sender) payload (length output))
+send-accepted l payload output sequence size output₁ =
+    by-send
+    (λ (s : SenderStep). outgoing (Sent sequence size) output₁ ≡ outgoing (asSending (s .answer)) (putAt output 0 (s .output)) → Accepted l payload output sequence size output₁ s)
+    (l .sender) payload (length output) (λ n said. impossible cc)
+    (λ free short fits said.
+    let number : sequence ≡ l .sender .next = cc in
+    let own = ownFrame (l .sender .next) payload in
+    let long : size ≡ length own = cc in
+    let put : output₁ ≡ putAt output 0 own = cc in
+    record { number = number; short = short; holds = rw number; frame-is = rw (number, long, put) (put-first output own fits) })
+
+for-sender : (sequence : ℕ) (payload : List ℕ) → length payload ≤ payloadMax → (f : Fate) (l : Ledger) (s : sender.Sender) → s ≡ asSender (l .sender)
+    → Accounted sequence payload f (l .sender .held) → AccountedFor sequence payload f s
+for-sender sequence payload short (fate.held repeats) l s is (few, waits) = (few, rw (is, waits) (refl, kept-whole payload short))
+for-sender sequence payload short (fate.acknowledged repeats) l s is a = a
+for-sender sequence payload short (fate.dropped repeats) l s is a = a
+
+-- THEOREM. After every list of calls: where a send is answered by "sent", and whatever calls come behind it, the frame is not lost.
+pub never-lost : (names : List (List ℕ)) (w : WatchList) → namesIn w ≡ some names → (d : Display) → Begins w d
+    → (cs : List Call) (left : List Left) (before : Display) → Chain d cs left before
+    → (payload output : List ℕ) (sequence size : ℕ) (output₁ : List ℕ) (behind : Display)
+    → Chain before (answers.send payload output ∷ []) (outgoing (Sent sequence size) output₁ ∷ []) behind
+    → (more : List Call) (since : List Left) (end : Display) → Chain behind more since end → NeverLost sequence payload (take size output₁) since end
+unfolding step
+never-lost names w listed d begins cs left before chain payload output sequence size output₁ behind next more since end further =
+    let a = agreeing listed begins chain in
+    let l = after (start names) cs in
+    let one = next-call a next in
+    let accepts = send-accepted l payload output sequence size output₁ (one .gives) in
+    let m = step l (answers.send payload output) .ledger in
+    let rest = chain-agrees names (a .fit) m further (one .agrees) in
+    let fated = accounted names sequence payload more m 0 (omega arith) (accepts .holds) in
+    let again = again-given names more m in
+    record {
+      frame-is = accepts .frame-is;
+      accounted-for = for-sender sequence payload (accepts .short) (fateOf sequence 0 since) (after m more) (end .sender) (rest .agrees .sender-is) (rw (rest .gives) fated);
+      again = rw (rest .gives, accepts .frame-is) ((rw (accepts .holds) at again) (omega arith));
+    }

@@ -1,10 +1,12 @@
 //! The sender of request C-13, which holds one frame of ours until it is acknowledged or dropped,
-//! written for reading and not for speed. The comparison of tests/display/ holds `run_cases` to this.
+//! written for reading and not for speed. The comparison of tests/display/ holds `run_cases` to
+//! this.
 
 use crate::frame::{self, write_frame};
 use crate::receiver::DATA;
 
-/// "A timeout event sends the same frame again the first two times; the third drops and reports it."
+/// "A timeout event sends the same frame again the first two times; the third drops and reports
+/// it."
 pub const REPEATS_MAX: u8 = 2;
 
 /// Why an event was refused: by the frame that still waits, or by the frame writer.

@@ -4,6 +4,7 @@ use crate::board::Reading;
 use crate::frame::{Refused, FLAG};
 use crate::places::{Place, AFTER_ESCAPE};
 use crate::receiver::{Answer, Call, Refusal};
+use crate::sender_classes::Sending;
 
 /// More bytes than any frame has, and more than 16 bits count.
 const MANY: usize = 1_000;
@@ -32,6 +33,7 @@ pub enum Class {
     /// A tick, or a call with short buffers, came inside the frame.
     TickInside(u8),
     ShortCallInside(u8),
+    Sender(Sending),
 }
 
 /// Refusals that have a place, and those of them whose fault may have bytes behind it.
@@ -59,6 +61,7 @@ impl Class {
             .chain(PLACED.map(Class::ShortCallInside))
             .chain(FAULTS.map(Class::ManyBehind))
             .chain(FAULTS.map(Class::Past16BitsBehind))
+            .chain(Sending::all().map(Class::Sender))
     }
 
     fn of_answer(answer: &Answer) -> Class {
@@ -98,7 +101,7 @@ impl Cut {
             _ => *self = Cut::default(),
         }
         if let Answer::Refused(Refusal::Frame(refused)) = call.answer {
-            let frame = closed(run, &piece[..call.taken]);
+            let frame = closed(run, piece, call).expect("a closed frame");
             classes.extend(self.of_refused(&frame, refused));
         }
         classes
@@ -145,13 +148,18 @@ impl Cut {
     }
 }
 
-/// The frame that the last of the taken bytes closes, with its flags.
-fn closed(run: Option<&[u8]>, taken: &[u8]) -> Vec<u8> {
+/// The frame that a call closes, with its flags.
+pub fn closed(run: Option<&[u8]>, piece: &[u8], call: &Call) -> Option<Vec<u8>> {
+    match call.answer {
+        Answer::Nothing | Answer::Refused(Refusal::ShortBuffer) => return None,
+        _ => {}
+    }
+    let taken = &piece[..call.taken];
     let line = match run {
         Some(run) => [&[FLAG], run, taken].concat(),
         None => taken.to_vec(),
     };
     let before = &line[..line.len() - 1];
     let opening = before.iter().rposition(|byte| *byte == FLAG);
-    line[opening.expect("an opening flag")..].to_vec()
+    Some(line[opening.expect("an opening flag")..].to_vec())
 }

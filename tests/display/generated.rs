@@ -82,7 +82,7 @@ fn line(random: &mut Random) -> Vec<u8> {
 }
 
 /// Any bytes but flags.
-fn noise(random: &mut Random, length: usize) -> Vec<u8> {
+pub fn noise(random: &mut Random, length: usize) -> Vec<u8> {
     let mut noise = bytes(random, length);
     for byte in noise.iter_mut().filter(|byte| **byte == FLAG) {
         *byte = random.one_of(&[0x5e, 0x5d, 0x00]);
@@ -91,7 +91,7 @@ fn noise(random: &mut Random, length: usize) -> Vec<u8> {
 }
 
 /// What stands between the flags of a frame with these parts.
-fn frame(kind: u8, sequence: u8, payload: &[u8]) -> Vec<u8> {
+pub fn frame(kind: u8, sequence: u8, payload: &[u8]) -> Vec<u8> {
     let frame = enclose(kind, sequence, payload);
     frame[1..frame.len() - 1].to_vec()
 }
@@ -133,7 +133,7 @@ impl Sender {
 }
 
 /// An update, one of a name that is not watched, an end mark, no packet, or none at all.
-fn packet(random: &mut Random) -> Vec<u8> {
+pub fn packet(random: &mut Random) -> Vec<u8> {
     let [id, value] = [random.byte(), random.byte()];
     let name = random.one_of(&[b"h1", b"h2", b"h1", b"h2", b"h3"]);
     let item: &[u8] = match random.below(8) {

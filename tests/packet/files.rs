@@ -4,7 +4,7 @@ use crate::cases::Case;
 use crate::draft::{fragment, part, Draft};
 use crate::packet::{BINARY, EOF, LENGTH, LOCATION, OFFSET};
 use crate::receiver::{Event, LOC};
-use crate::systematic::strings;
+use crate::strings::strings;
 use crate::transfer::FRAGMENT;
 
 pub fn cases() -> impl Iterator<Item = Case> {

@@ -1,7 +1,8 @@
 //! Watch lists that go through every value of something.
 
 use crate::cases::{Case, LIST_BYTES_MAX};
-use crate::systematic::{names, strings};
+use crate::strings::strings;
+use crate::systematic::names;
 use crate::watch_list::{NAMES_MAX, NAME_TAG};
 
 pub fn cases() -> impl Iterator<Item = Case> {

@@ -31,6 +31,8 @@ mod seeds;
 #[cfg(test)]
 #[path = "../shared/stored.rs"]
 mod stored;
+#[path = "../shared/strings.rs"]
+mod strings;
 mod systematic;
 #[path = "../shared/tally.rs"]
 mod tally;

@@ -5,6 +5,7 @@ use crate::cases::{Case, LINE_BYTES_MAX};
 use crate::draft::{fragment, part, Draft, Part};
 use crate::packet::{BOOLEAN, CENTS, EOF, HEAD, INTEGER, NAME};
 use crate::receiver::LOC;
+use crate::strings::strings;
 use crate::transfer::FRAGMENT;
 
 pub fn packet_cases() -> impl Iterator<Item = Case> {
@@ -32,24 +33,6 @@ pub fn board_cases() -> impl Iterator<Item = Case> {
         .chain(every_head());
     let readings = packets.map(Case::Reading);
     readings.chain(every_value()).chain([Case::NoBytes('v')])
-}
-
-/// Each string of up to `longest` of the choices.
-pub fn strings<T: Clone>(choices: &[T], longest: usize) -> Vec<Vec<T>> {
-    let mut all = vec![Vec::new()];
-    let mut begun = 0;
-    for _ in 0..longest {
-        let ended = all.len();
-        for place in begun..ended {
-            for choice in choices {
-                let mut longer = all[place].clone();
-                longer.push(choice.clone());
-                all.push(longer);
-            }
-        }
-        begun = ended;
-    }
-    all
 }
 
 fn update(items: Vec<Part>) -> Draft {

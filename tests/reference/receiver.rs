@@ -10,8 +10,8 @@ pub const REPLY_MIN: usize = 9;
 pub const PACKET_MIN: usize = PAYLOAD_MAX;
 
 // Types of a frame.
-const DATA: u8 = 0x01;
-const ACKNOWLEDGEMENT: u8 = 0x02;
+pub const DATA: u8 = 0x01;
+pub const ACKNOWLEDGEMENT: u8 = 0x02;
 
 /// Why a call was refused: by the frame that it closed, or by its buffers.
 #[derive(Clone, Copy, Debug, PartialEq, Eq)]

@@ -26,6 +26,11 @@ mod events;
 #[allow(dead_code)]
 mod frame;
 mod generated;
+#[path = "../shared/lent.rs"]
+mod lent;
+#[path = "../shared/line_bytes.rs"]
+#[allow(dead_code)]
+mod line_bytes;
 mod peer;
 mod pieces;
 mod printed;

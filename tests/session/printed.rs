@@ -3,10 +3,9 @@
 use crate::ash;
 use crate::cutter::Cut;
 use crate::events::Event;
+use crate::lent::lent;
+use crate::line_bytes::hex;
 use crate::session::{Answer, Refusal, Session};
-
-/// What a buffer holds before the call.
-const UNTOUCHED: u8 = 0xee;
 
 pub fn of_event(event: &Event, answer: &Result<Answer, Refusal>) -> String {
     let nothing = Answer::default();
@@ -14,11 +13,11 @@ pub fn of_event(event: &Event, answer: &Result<Answer, Refusal>) -> String {
         Ok(answer) => (told(answer), answer),
         Err(refusal) => (format!("refused {}", refusal.number()), &nothing),
     };
-    let output = buffer(&answer.sent, event.room());
+    let output = lent(&answer.sent, event.room());
     match event {
         Event::Receive { payload_room, .. } => {
             let payload = answer.payload.as_deref().unwrap_or_default();
-            format!("{text} {output} {}", buffer(payload, *payload_room))
+            format!("{text} {output} {}", lent(payload, *payload_room))
         }
         _ => format!("{text} {output}"),
     }
@@ -53,17 +52,5 @@ pub fn of_cut(cut: &Result<Cut, ash::Refusal>, room: usize) -> String {
         },
         Err(refusal) => (format!("refused {} taken 0", refusal.number()), &[][..]),
     };
-    format!("{text} {}", buffer(frame, room))
-}
-
-/// A buffer of this length with these bytes at its start: its bytes up to the last that is not as it
-/// was before the call, and how many follow.
-fn buffer(put: &[u8], room: usize) -> String {
-    let last = put.iter().rposition(|byte| *byte != UNTOUCHED);
-    let changed = last.map_or(0, |last| last + 1);
-    format!("{}+{}", hex(&put[..changed]), room - changed)
-}
-
-fn hex(bytes: &[u8]) -> String {
-    bytes.iter().map(|byte| format!("{byte:02x}")).collect()
+    format!("{text} {}", lent(frame, room))
 }

@@ -44,7 +44,11 @@ returns : tie.Need-returns Inv-loop μ-loop
 returns c = search needs
 
 add-at : tie.Need-add-at Inv-loop μ-loop
-add-at c = let taken = some (c .before .before .before .before) in omega (arith, taken .0, taken .1)
+add-at c =
+    let call = c .before .before .before .before in
+    let taken = some call in
+    let start = call .before .before .before .before .before in
+    omega (arith, taken .0, taken .1, start .good .1 .0)
 
 loop-less : tie.Need-loop-less Inv-loop μ-loop
 loop-less c = let taken = some (c .before .before .before .before) in omega (arith, taken .0, taken .1)

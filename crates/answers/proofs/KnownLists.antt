@@ -22,7 +22,8 @@ use Rattle.ledger.specs.Ledger.{start}
 use Rattle.ledger.specs.Answers.{as-bytes, Call, piece, tick}
 use Rattle.ledger.specs.Calls.{after}
 use Rattle.ledger.specs.Shown.{asEntry, Left, rowAt}
-use Rattle.ledger.proofs.Chain.{Begins, Chain, Lists, Runs, every-list-runs}
+use Rattle.ledger.proofs.Chain.{Begins, Chain, Lists}
+use Rattle.ledger.proofs.EveryListRuns.{Runs, every-list-runs}
 use Rattle.ledger.proofs.EveryList.{agreeing}
 use Rattle.ledger.proofs.FreshStarts.{good-list-accepted, too-many-names-refused, good-begins}
 use Rattle.ledger.proofs.OldDisplays.{names-as-before, more-names-refused, oldStart, ShownAsBefore, calls-as-before}

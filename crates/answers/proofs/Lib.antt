@@ -4,6 +4,7 @@ pub mod KnownChecks
 pub mod KnownDamage
 pub mod KnownDamagedFrames
 pub mod KnownPlaces
+pub mod KnownSends
 pub mod KnownLists
 pub mod KnownRuns
 pub mod KnownValues

@@ -10,6 +10,7 @@ use Rattle.refusals.specs.Numbers.{shortOutput}
 use Rattle.ledger.specs.Ledger.{Ledger, withSender}
 use Rattle.ledger.specs.Frames as frames
 use Rattle.ledger.specs.Frames.{Turn, goes-on, closes, turn, Frame, frameOf}
+use Rattle.ledger.specs.Answers as answers
 use Rattle.ledger.specs.Answers.{Answer, nothing, refused, heard, again, new, Sending}
 use Rattle.ledger.specs.Sending.{SenderStep, sends, timesOut}
 use Rattle.ledger.specs.Calls as calls
@@ -30,6 +31,14 @@ toldBy (refused n place) = cond (eqb n shortOutput) [] (by-piece (refused n plac
 toldBy (heard sequence) = by-piece (heard sequence) ∷ []
 toldBy (again sequence) = by-piece (again sequence) ∷ []
 toldBy (new sequence payload verdict) = by-piece (new sequence payload verdict) ∷ []
+
+-- and those of sends and timeouts that were not refused
+abbrev pub sendingTold : Sending → List Told
+sendingTold answers.idle = by-sender answers.idle ∷ []
+sendingTold (answers.refused n) = []
+sendingTold (answers.sent sequence payload) = by-sender (answers.sent sequence payload) ∷ []
+sendingTold (answers.repeated sequence payload) = by-sender (answers.repeated sequence payload) ∷ []
+sendingTold (answers.dropped lost) = by-sender (answers.dropped lost) ∷ []
 
 pub record Happening : Type 0 where
   pub ledger : Ledger

@@ -10,13 +10,13 @@ use Rattle.ledger.specs.Ledger.{Ledger}
 use Rattle.ledger.specs.Frames.{Turn, goes-on, closes, turn, Taken, afterTurn, taken, Frame, frameOf}
 use Rattle.ledger.specs.Answers as answers
 use Rattle.ledger.specs.Calls as calls
-use Rattle.ledger.specs.Answers.{Call, Sending, Given}
+use Rattle.ledger.specs.Answers.{Call, Given}
 use Rattle.ledger.specs.Sending.{SenderStep, timesOut}
 use Rattle.ledger.specs.Calls.{effectOf, withRun, senderStep, step, given, after}
 use Rattle.ledger.specs.Shown.{asSending, asLeft}
 use Rattle.ledger.specs.History.{Event, byte, timeout, unlessRefused, eventsOf, history}
 use Rattle.ledger.specs.ClosedFrames.{behindTurn, marksFrom, framesOf}
-use Rattle.ledger.proofs.ByEvents.{Told, by-sender, toldBy, atTurn, afterHistory, toldInHistory, history-append, told-append}
+use Rattle.ledger.proofs.ByEvents.{Told, by-sender, toldBy, sendingTold, atTurn, afterHistory, toldInHistory, history-append, told-append}
 use Rattle.ledger.proofs.RoomLaws.{by-room}
 use Rattle.ledger.proofs.SenderLaws.{by-send, by-waiting, by-timeout}
 
@@ -77,13 +77,6 @@ piece-same (b ∷ bs) l n = by-turn (turn (l .line .run) b) refl (λ run. piece-
         }
 
 -- what a call tells
-abbrev pub sendingTold : Sending → List Told
-sendingTold answers.idle = by-sender answers.idle ∷ []
-sendingTold (answers.refused n) = []
-sendingTold (answers.sent sequence payload) = by-sender (answers.sent sequence payload) ∷ []
-sendingTold (answers.repeated sequence payload) = by-sender (answers.repeated sequence payload) ∷ []
-sendingTold (answers.dropped frame) = by-sender (answers.dropped frame) ∷ []
-
 abbrev pub toldIn : Given → List Told
 toldIn (answers.took n answer reply packet) = toldBy answer
 toldIn answers.ticked = []
@@ -91,9 +84,9 @@ toldIn (answers.outgoing answer output) = sendingTold answer
 
 module _ (names : List (List ℕ)) where
   -- what a call does is what its part of the history does
-  record SameStep (l : Ledger) (c : Call) (s : calls.Step) : Type 0 where
-    ledger : s .ledger ≡ afterHistory l (eventsOf c (asLeft names (s .given)))
-    told : toldIn (s .given) ≡ toldInHistory l (eventsOf c (asLeft names (s .given)))
+  pub record SameStep (l : Ledger) (c : Call) (s : calls.Step) : Type 0 where
+    pub ledger : s .ledger ≡ afterHistory l (eventsOf c (asLeft names (s .given)))
+    pub told : toldIn (s .given) ≡ toldInHistory l (eventsOf c (asLeft names (s .given)))
 
   -- a timeout that is not refused
   record SameSending (l : Ledger) (s : SenderStep) : Type 0 where
@@ -108,7 +101,7 @@ module _ (names : List (List ℕ)) where
       (λ frame e many. record { events = refl; tells = refl }) in
       record { ledger = rw (same .events); told = rw (same .events, same .tells) }
 
-  step-same : (l : Ledger) (c : Call) → SameStep l c (step l c)
+  pub step-same : (l : Ledger) (c : Call) → SameStep l c (step l c)
   unfolding step afterHistory toldInHistory
   step-same l (answers.piece bytes reply packet) =
       by-room (SameStep l (answers.piece bytes reply packet)) l bytes reply packet

@@ -12,6 +12,7 @@ pub mod RoomLaws
 pub mod StepAgreement
 pub mod PieceAgreement
 pub mod Chain
+pub mod EveryListRuns
 pub mod FreshStarts
 pub mod EveryList
 pub mod OldDisplays
@@ -21,6 +22,7 @@ pub mod FrameLaws
 pub mod HandedLaws
 pub mod ToldLaws
 pub mod SameHistory
+pub mod FedHistory
 pub mod Streams
 pub mod HandedUp
 pub mod Replies
@@ -44,3 +46,4 @@ pub mod SentAgain
 pub mod SentAccounted
 pub mod NeverLost
 pub mod RefusedEvents
+pub mod SenderCalls

@@ -1,22 +1,28 @@
 -- DEMAND 3, cuts of the byte stream do not matter: a stream is offered piece by piece, and what a call did not take is offered again. Its
--- history is the stream, wherever it is cut, and every cutting gets through, since a call with room takes at least one byte.
+-- history is the stream without its refused events, wherever it is cut, and every cutting gets through, since a call with room takes at
+-- least one byte.
 use mathlib.Core.Path.{_≡_, refl, sym, ap, _∙_}
-use mathlib.Core.List.{List, [], _∷_, _++_, map, map-append, append-assoc}
+use mathlib.Core.List.{List, [], _∷_}
 use mathlib.Core.Option.{some}
 use Prim.Native.Nat.{ℕ, zero, suc, _≤_}
 use native.Mathlib.Omega.{arith}
-use lib.ListN.{length, take, drop, replicate, length-drop, take-append-drop}
+use lib.ListN.{length, drop, replicate, length-drop}
+use Rattle.sender.specs.Events.{sendOf, timeoutOf}
 use Rattle.display.specs.Display.{receivePiece, tickDisplay}
+use Rattle.display.specs.Sending.{withSender}
 use Rattle.display.specs.Taking.{Takes}
 use Rattle.display.specs.declared.Display.{Display}
 use Rattle.display.specs.declared.Received.{Received}
 use Rattle.display.proofs.TakingLaws.{takes-some}
-use Rattle.ledger.specs.Answers.{WatchList, namesIn, Call, piece, tick}
-use Rattle.ledger.specs.Shown.{Left, took, ticked}
-use Rattle.ledger.specs.History.{Event, byte, minute, history, Part, cut, pause, eventsIn}
+use Rattle.ledger.specs.Ledger.{start}
+use Rattle.ledger.specs.Answers.{WatchList, namesIn, Call, tick}
 use Rattle.ledger.specs.Calls.{replyRoom, packetRoom}
-use Rattle.ledger.proofs.Chain.{Begins, Receives, Ticks, Chain, done, receives, ticks, received, received-by}
+use Rattle.ledger.specs.Shown.{Left, ticked}
+use Rattle.ledger.specs.Streams.{Part, cut, pause, send, timeout, offersIn}
+use Rattle.ledger.proofs.Chain.{Begins, Receives, received}
+use Rattle.ledger.proofs.EveryListRuns.{received-by, sent-by, timed-out-by}
 use Rattle.ledger.proofs.SameHistory.{Alike, same-history}
+use Rattle.ledger.proofs.FedHistory.{Feeds, fed, all-taken, offered, paused, asked, waited, fed-chain, acceptedFrom, fed-history}
 
 -- THEOREM. Whatever the display, a call that is lent a reply buffer of at least 9 bytes and a packet buffer of at least 383 takes at most its
 -- piece, and some of a piece that has any byte.
@@ -25,45 +31,15 @@ pub room-takes : {d : Display} {bytes reply packet reply₁ packet₁ : List ℕ
 room-takes {d = d} {bytes = bytes} {reply = reply} {packet = packet} {reply₁ = reply₁} {packet₁ = packet₁} {result = result} r a b =
     takes-some d bytes (length reply) (length packet) reply packet reply₁ packet₁ result a b (received r)
 
--- a stream that is cut into parts is offered, refused calls among them: each piece, then what of it was not taken, until it is all taken
-pub data Feeds : Display → List Part → List Call → List Left → Display → Type 0 where
-  fed : {d : Display} → Feeds d [] [] [] d
-  all-taken : {d d₁ : Display} {parts : List Part} {cs : List Call} {left : List Left} → Feeds d parts cs left d₁ → Feeds d (cut [] ∷ parts) cs left d₁
-  offered : {d d₁ : Display} {bytes reply packet reply₁ packet₁ : List ℕ} {result : Received} {parts : List Part} {cs : List Call} {left : List Left}
-      → Receives d bytes reply packet result reply₁ packet₁ → Feeds (result .display) (cut (drop (result .taken) bytes) ∷ parts) cs left d₁
-      → Feeds d (cut bytes ∷ parts) (piece bytes reply packet ∷ cs) (took (result .taken) (result .answer) reply₁ packet₁ ∷ left) d₁
-  paused : {d d₁ d₂ : Display} {parts : List Part} {cs : List Call} {left : List Left} → Ticks d d₁ → Feeds d₁ parts cs left d₂
-      → Feeds d (pause ∷ parts) (tick ∷ cs) (ticked ∷ left) d₂
-
-fed-chain : {d d₁ : Display} {parts : List Part} {cs : List Call} {left : List Left} → Feeds d parts cs left d₁ → Chain d cs left d₁
-fed-chain fed = done
-fed-chain (all-taken rest) = fed-chain rest
-fed-chain (offered r rest) = receives r (fed-chain rest)
-fed-chain (paused t rest) = ticks t (fed-chain rest)
-
--- the bytes taken and those offered again are the piece
-rejoined : (n : ℕ) (bytes : List ℕ) (rest : List Event) → map byte (take n bytes) ++ (map byte (drop n bytes) ++ rest) ≡ map byte bytes ++ rest
-rejoined n bytes rest =
-    sym (append-assoc (map byte (take n bytes)) (map byte (drop n bytes)) rest)
-    ∙ ap (λ (es : List Event). es ++ rest) (sym (map-append byte (take n bytes) (drop n bytes)) ∙ ap (map byte) (take-append-drop n bytes))
-
--- THEOREM. The history of such calls is the stream.
-pub fed-history : {d d₁ : Display} {parts : List Part} {cs : List Call} {left : List Left} → Feeds d parts cs left d₁ → history cs left ≡ eventsIn parts
-unfolding history eventsIn
-fed-history fed = refl
-fed-history (all-taken rest) = fed-history rest
-fed-history (offered {bytes = bytes} {result = result} {parts = parts} r rest) =
-    ap (λ (es : List Event). map byte (take (result .taken) bytes) ++ es) (fed-history rest) ∙ rejoined (result .taken) bytes (eventsIn parts)
-fed-history (paused t rest) = ap (λ (es : List Event). minute ∷ es) (fed-history rest)
-
 -- THEOREM. Wherever a stream is cut, the outcome is the same: from fresh starts with the same names, two ways to cut the same stream are alike
 -- in answers, replies, packets, counts and board, and in all that comes behind.
 pub cuts-do-not-matter : (names : List (List ℕ)) (w w₁ : WatchList) → namesIn w ≡ some names → namesIn w₁ ≡ some names
-    → (d d₁ : Display) → Begins w d → Begins w₁ d₁ → (parts parts₁ : List Part) → eventsIn parts ≡ eventsIn parts₁
+    → (d d₁ : Display) → Begins w d → Begins w₁ d₁ → (parts parts₁ : List Part) → offersIn parts ≡ offersIn parts₁
     → (cs cs₁ : List Call) (left left₁ : List Left) (end end₁ : Display) → Feeds d parts cs left end → Feeds d₁ parts₁ cs₁ left₁ end₁
     → Alike left left₁ end end₁
 cuts-do-not-matter names w w₁ listed listed₁ d d₁ b b₁ parts parts₁ same cs cs₁ left left₁ end end₁ f f₁ =
-    same-history names w w₁ listed listed₁ d d₁ b b₁ cs cs₁ left left₁ end end₁ (fed-chain f) (fed-chain f₁) (fed-history f ∙ same ∙ sym (fed-history f₁))
+    same-history names w w₁ listed listed₁ d d₁ b b₁ cs cs₁ left left₁ end end₁ (fed-chain f) (fed-chain f₁)
+    (fed-history names w listed d b f ∙ ap (acceptedFrom (start names)) same ∙ sym (fed-history names w₁ listed₁ d₁ b₁ f₁))
 
 -- calls that take a stream
 pub record Fed (d : Display) (parts : List Part) : Type 0 where
@@ -102,3 +78,9 @@ every-cut (cut bytes ∷ parts) d = piece-fed parts (λ d₁. every-cut parts d�
 every-cut (pause ∷ parts) d =
     let rest = every-cut parts (tickDisplay d) in
     record { cs = tick ∷ rest .cs; left = ticked ∷ rest .left; end = rest .end; feeds = paused refl (rest .feeds) }
+every-cut (send payload output ∷ parts) d =
+    let rest = every-cut parts (withSender d (sendOf (d .sender) payload (length output) .outcome .sender)) in
+    record { cs = _ ∷ rest .cs; left = _ ∷ rest .left; end = rest .end; feeds = asked (sent-by d payload output) (rest .feeds) }
+every-cut (timeout output ∷ parts) d =
+    let rest = every-cut parts (withSender d (timeoutOf (d .sender) (length output) .outcome .sender)) in
+    record { cs = _ ∷ rest .cs; left = _ ∷ rest .left; end = rest .end; feeds = waited (timed-out-by d output) (rest .feeds) }

@@ -13,8 +13,8 @@ use Rattle.ledger.specs.Calls.{step, given}
 use Rattle.ledger.specs.Shown.{asAnswer, asSending, asLeft}
 use Rattle.ledger.specs.History as software
 use Rattle.ledger.specs.History.{Handed, among, allHanded, answersAs, answersLeft, allAnswers}
-use Rattle.ledger.proofs.ByEvents.{Told, by-piece, by-sender, toldBy}
-use Rattle.ledger.proofs.HistoryLaws.{sendingTold, toldIn, toldOut}
+use Rattle.ledger.proofs.ByEvents.{Told, by-piece, by-sender, toldBy, sendingTold}
+use Rattle.ledger.proofs.HistoryLaws.{toldIn, toldOut}
 use Rattle.ledger.proofs.HandedLaws.{handedBy, handedOut, handedIn, step-handed}
 
 -- with all that is told it is settled what is handed out

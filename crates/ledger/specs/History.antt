@@ -63,16 +63,6 @@ history [] left = []
 history (c ∷ cs) [] = []
 history (c ∷ cs) (l ∷ left) = eventsOf c l ++ history cs left
 
--- a stream from the module as it is cut: pieces of bytes, with minutes between them
-pub data Part : Type 0 where
-  cut : List ℕ → Part
-  pause : Part
-
-unfoldable pub eventsIn : List Part → List Event
-eventsIn [] = []
-eventsIn (cut bytes ∷ parts) = map byte bytes ++ eventsIn parts
-eventsIn (pause ∷ parts) = minute ∷ eventsIn parts
-
 -- what is handed out: an acknowledgement for the module, a frame of our own for it, or a packet from it
 pub data Handed : Type 0 where
   as-reply : List ℕ → Handed

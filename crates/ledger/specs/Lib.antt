@@ -5,6 +5,7 @@ pub mod Sending
 pub mod Calls
 pub mod Shown
 pub mod History
+pub mod Streams
 pub mod ClosedFrames
 pub mod BoardEvents
 pub mod OwnFrames

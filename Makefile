@@ -272,7 +272,7 @@ valgrind: $(addprefix $(OUT)/,$(C_TESTS) serial differential replay_test display
 # Mutants: small wrong programs, each to be refused
 
 # The crates that have code to change, and those that have written edits. CRATES=.. names fewer.
-MUTATED := refusals slices crc frame ash cutter session host packet value rows board link display transfer history cases
+MUTATED := refusals slices crc frame ash cutter session host packet value rows board link sender display transfer history cases
 EDITED := $(notdir $(wildcard tests/mutants/written/*))
 # On the contracts of `cases` no library rests that has a theorem.
 EMPTIED := $(filter-out cases,$(MUTATED))

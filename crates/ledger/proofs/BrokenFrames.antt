@@ -1,6 +1,6 @@
 -- 02, C-16, of the display: the place in an answer says where the frame broke, counted from the last flag before it, whatever the pieces in which
 -- its bytes came. The ledger's run is what came since that flag, and it is read as a whole.
-use mathlib.Core.Path.{_≡_, refl, sym, ap, _∙_}
+use mathlib.Core.Path.{_≡_, refl, ap, _∙_}
 use mathlib.Core.Bool.{Bool, true, false, cond}
 use mathlib.Core.List.{List, [], _∷_}
 use mathlib.Core.Option.{Option, some, none}
@@ -20,7 +20,7 @@ use Rattle.display.specs.declared.Answer.the-variants.{Refused}
 use Rattle.display.specs.declared.Display.{Display}
 use Rattle.ledger.specs.Ledger.{Ledger, start}
 use Rattle.ledger.specs.Frames as frames
-use Rattle.ledger.specs.Frames.{Taken, taken, byType, frameOf}
+use Rattle.ledger.specs.Frames.{taken, byType, frameOf}
 use Rattle.ledger.specs.Answers.{WatchList, namesIn, Call, piece}
 use Rattle.ledger.specs.Calls.{effectOf, withRun, after, replyRoom, packetRoom}
 use Rattle.ledger.specs.Shown.{asAnswer, Left, took}

@@ -1,11 +1,10 @@
 -- A chain of calls: each is given what the last one left, and meets the contract of the function that runs. The contracts are those
 -- that the toolchain reads off the source (`Learnt`, `Asked`), so a contract that says less breaks what is built on this.
-use mathlib.Core.Path.{_≡_, refl}
+use mathlib.Core.Path.{_≡_}
 use mathlib.Core.List.{List, [], _∷_, _++_}
 use Prim.Native.Nat.{ℕ}
 use lib.ListN.{length}
 use contract.Lifetimes.{Lfts}
-use Rattle.slices.specs.Put.{putAt}
 use Rattle.slices.proofs.Lent.{Lent, lent, InCall}
 use Rattle.rows.specs.declared.Board.{Board}
 use Rattle.rows.proofs.fresh.Reads as fresh
@@ -14,8 +13,8 @@ use Rattle.board.specs.declared.list.Watched.{Watched}
 use Rattle.board.proofs.watch.Reads as watch
 use Rattle.board.proofs.watch_list.Reads as watch-list
 use Rattle.sender.specs.Events.{sendOf, timeoutOf}
-use Rattle.display.specs.Display.{receivePiece, DisplaysAs, tickDisplay}
-use Rattle.display.specs.Sending.{withSender, sentBy, SendsAs}
+use Rattle.display.specs.Display.{receivePiece, DisplaysAs}
+use Rattle.display.specs.Sending.{SendsAs}
 use Rattle.display.specs.declared.Display.{Display}
 use Rattle.display.specs.declared.Received.{Received}
 use Rattle.display.specs.declared.Sent.{Sent}

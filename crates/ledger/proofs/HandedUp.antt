@@ -1,12 +1,10 @@
 -- The packets that are handed out are those that went to the board: a data frame that is closed and not repeated at once is answered as new,
 -- with its payload, and no other frame is.
 use mathlib.Core.Path.{_≡_, refl, sym, ap, _∙_}
-use mathlib.Core.Bool.{Bool, true, false, cond}
+use mathlib.Core.Bool.{Bool, true, false}
 use mathlib.Core.List.{List, [], _∷_, _++_}
 use mathlib.Core.Option.{Option, some}
 use Prim.Native.Nat.{ℕ}
-use lib.Dec.{eqb}
-use Rattle.refusals.specs.Numbers.{shortOutput}
 use Rattle.display.specs.declared.Display.{Display}
 use Rattle.ledger.specs.Ledger.{Ledger, start}
 use Rattle.ledger.specs.Frames as frames

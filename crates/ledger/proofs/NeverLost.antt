@@ -1,8 +1,8 @@
 -- 02, C-13, in the owner's words: a frame that was sent is sent again at most twice, and is at any time held, acknowledged or reported as
 -- dropped, never lost silently. The ledger holds the frame from its send on, and the sender is the ledger's.
-use mathlib.Core.Path.{_≡_, refl, sym, ap, _∙_}
-use mathlib.Core.List.{List, [], _∷_, map}
-use mathlib.Core.Option.{Option, some}
+use mathlib.Core.Path.{_≡_, refl}
+use mathlib.Core.List.{List, [], _∷_}
+use mathlib.Core.Option.{some}
 use Prim.Native.Nat.{ℕ, _≤_}
 use native.Mathlib.Omega.{arith}
 use lib.ListN.{length, take}
@@ -15,16 +15,16 @@ use Rattle.sender.specs.declared.state.Answer.the-variants.{Sent}
 use Rattle.sender.specs.declared.state.Held.the-variants as sender-held
 use Rattle.sender.specs.declared.state.Sender as sender
 use Rattle.display.specs.declared.Display.{Display}
-use Rattle.ledger.specs.Ledger.{Held, Ledger, start}
+use Rattle.ledger.specs.Ledger.{Ledger, start}
 use Rattle.ledger.specs.Answers as answers
 use Rattle.ledger.specs.Answers.{WatchList, namesIn, Call}
 use Rattle.ledger.specs.Sending.{SenderStep, ownFrame, sendStep}
-use Rattle.ledger.specs.Calls.{step, given, after, senderStep}
-use Rattle.ledger.specs.Shown.{asSender, asSending, Left, outgoing, asLeft}
+use Rattle.ledger.specs.Calls.{step, after}
+use Rattle.ledger.specs.Shown.{asSender, asSending, Left, outgoing}
 use Rattle.ledger.specs.SentFrames as fate
 use Rattle.ledger.specs.SentFrames.{Fate, fateOf, sentAgain}
 use Rattle.ledger.proofs.Chain.{Begins, Chain}
-use Rattle.ledger.proofs.EveryList.{chain-agrees, Agreeing, agreeing, next-call}
+use Rattle.ledger.proofs.EveryList.{chain-agrees, agreeing, next-call}
 use Rattle.ledger.proofs.SenderLaws.{by-send}
 use Rattle.ledger.proofs.SenderAgreement.{kept-whole}
 use Rattle.ledger.proofs.SentAccounted.{Accounted, accounted}

@@ -13,10 +13,9 @@ use borrow.Author.Tests.{eqb-true, ltb-true, ltb-false}
 use Rattle.slices.proofs.Impossible.{impossible}
 use Rattle.slices.specs.Put.{putAt}
 use Rattle.refusals.specs.Numbers.{shortOutput}
-use Rattle.sender.specs.Events.{Given, sendOf, timeoutOf}
+use Rattle.sender.specs.Events.{Given}
 use Rattle.sender.specs.declared.state.Answer as sender-answer
 use Rattle.sender.specs.declared.state.Answer.the-variants as sender-says
-use Rattle.sender.specs.declared.state.Sender.{Sender}
 use Rattle.sender.proofs.EventTheorems.{Keeps, refused-send-keeps, refused-timeout-keeps}
 use Rattle.display.specs.Sending.{withSender, SendsAs}
 use Rattle.display.specs.declared.Answer.{Answer}

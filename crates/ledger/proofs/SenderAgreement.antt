@@ -1,28 +1,28 @@
 -- The sender does what the ledger's sender does: the writer refuses what the rules refuse, in their order, and what is held is the payload
 -- that was sent, since it has at most the 383 bytes that there is room for.
-use mathlib.Core.Path.{_≡_, refl, sym, ap, ap₂, _∙_}
+use mathlib.Core.Path.{_≡_, refl}
 use mathlib.Core.Bool.{Bool, true, false, cond}
 use mathlib.Core.List.{List}
 use mathlib.Core.Option.{Option, some, none}
 use Prim.Native.Nat.{ℕ, _≤_}
 use native.Mathlib.Omega.{arith}
 use lib.Dec.{eqb, ltb}
-use lib.ListN.{length, take, replicate, length-replicate}
-use borrow.Author.Tests.{le-ltb, ltb-false}
+use lib.ListN.{length, replicate, length-replicate}
+use borrow.Author.Tests.{le-ltb}
 use Rattle.slices.proofs.Impossible.{impossible}
 use Rattle.slices.proofs.PutLaws.{put-first}
 use Rattle.slices.specs.Written as writer
 use Rattle.slices.specs.Written.{fitted}
 use Rattle.refusals.specs.Numbers.{shortOutput, longPayload}
-use Rattle.frame.specs.Content.{dataType, payloadMax}
-use Rattle.frame.specs.Writing.{framed, writeContent, writeFrame}
+use Rattle.frame.specs.Content.{payloadMax}
+use Rattle.frame.specs.Writing.{writeContent, writeFrame}
 use Rattle.sender.specs.State as state
 use Rattle.sender.specs.State.{payloadOf, kept}
 use Rattle.sender.specs.Events as events
 use Rattle.sender.specs.Events.{sendOf, timeoutOf}
 use Rattle.sender.specs.declared.state.Answer.the-variants.{Sent, Repeated, Dropped}
 use Rattle.ledger.specs.Ledger.{Held, Sender}
-use Rattle.ledger.specs.Sending.{SenderStep, ownFrame, sends, repeatsMax, sendsAgain, drops, timesOutFrom, timesOut, refusing, withRoom, waiting, sendStep, timeoutStep, heldBehind, acknowledged}
+use Rattle.ledger.specs.Sending.{SenderStep, ownFrame, sends, repeatsMax, sendsAgain, drops, refusing, withRoom, sendStep, timeoutStep, heldBehind, acknowledged}
 use Rattle.ledger.specs.Shown.{asSender, asSending}
 use Rattle.ledger.proofs.SenderLaws.{by-send, by-waiting, by-timeout}
 

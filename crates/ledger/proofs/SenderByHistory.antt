@@ -1,13 +1,13 @@
 -- 02, C-13: after each history the rules alone say which event is refused, and what is dropped and reported. The sender is what the history
 -- makes of it, event by event, so what the next event gives is settled by the history and the event.
-use mathlib.Core.Path.{_≡_, refl, sym, ap, _∙_}
+use mathlib.Core.Path.{_≡_, refl, ap, _∙_}
 use mathlib.Core.List.{List, [], _∷_}
-use mathlib.Core.Option.{Option, some}
+use mathlib.Core.Option.{some}
 use Prim.Native.Nat.{ℕ}
 use lib.ListN.{length}
 use Rattle.slices.specs.Put.{putAt}
 use Rattle.display.specs.declared.Display.{Display}
-use Rattle.ledger.specs.Ledger.{Sender, Ledger, start}
+use Rattle.ledger.specs.Ledger.{Ledger, start}
 use Rattle.ledger.specs.Frames.{Turn, goes-on, closes, turn, frameOf}
 use Rattle.ledger.specs.Answers as answers
 use Rattle.ledger.specs.Answers.{WatchList, namesIn, Call}

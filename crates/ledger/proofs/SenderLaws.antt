@@ -7,11 +7,16 @@ use Prim.Native.Nat.{ℕ, _≤_, _<_}
 use lib.Dec.{ltb}
 use lib.ListN.{length}
 use borrow.Author.Tests.{ltb-true, ltb-false}
-use Rattle.refusals.specs.Numbers.{shortOutput, longPayload, frameWaiting}
+use Rattle.slices.proofs.Impossible.{impossible}
+use Rattle.refusals.specs.Numbers.{shortOutput}
 use Rattle.frame.specs.Content.{payloadMax}
 use Rattle.ledger.specs.Ledger.{Held, Sender}
 use Rattle.ledger.specs.Answers.{idle}
 use Rattle.ledger.specs.Sending.{SenderStep, ownFrame, sends, repeatsMax, sendsAgain, drops, timesOutFrom, timesOut, refusing, withRoom, waiting, sendStep, timeoutStep}
+
+free : (held : Option Held) → waiting held ≡ false → held ≡ none
+free none e = refl
+free (some frame) e = impossible cc
 
 module _ (P : SenderStep → Type 0) (s : Sender) where
   pub by-room : (room : ℕ) (step : SenderStep) → P (refusing s shortOutput) → (length (step .output) ≤ room → P step) → P (withRoom room s step)
@@ -25,17 +30,18 @@ module _ (P : SenderStep → Type 0) (s : Sender) where
   pub by-send : (payload : List ℕ) (room : ℕ) → ((n : ℕ) → P (refusing s n))
       → (s .held ≡ none → length payload ≤ payloadMax → length (ownFrame (s .next) payload) ≤ room → P (sends s payload)) → P (sendStep s payload room)
   unfolding sendStep
-  by-send payload room refused goes = by-held (s .held) refl
+  by-send payload room refused goes =
+      by-tests (waiting (s .held)) (ltb payloadMax (length payload)) (ltb room (length (ownFrame (s .next) payload))) refl refl refl
     where
-      by-length : s .held ≡ none → (t : Bool) → ltb payloadMax (length payload) ≡ t → P (cond t (refusing s longPayload) (withRoom room s (sends s payload)))
-      by-length free true e = refused longPayload
-      by-length free false e =
-          by-room room (sends s payload) (refused shortOutput) (λ fits. goes free (ltb-false payloadMax (length payload) e) fits)
-
-      by-held : (held : Option Held) → s .held ≡ held
-          → P (cond (waiting held) (refusing s frameWaiting) (cond (ltb payloadMax (length payload)) (refusing s longPayload) (withRoom room s (sends s payload))))
-      by-held none e = by-length e (ltb payloadMax (length payload)) refl
-      by-held (some frame) e = refused frameWaiting
+      by-tests : (t u v : Bool) → waiting (s .held) ≡ t → ltb payloadMax (length payload) ≡ u → ltb room (length (ownFrame (s .next) payload)) ≡ v
+          → P (sendStep s payload room)
+      by-tests true true v e f g = rw e (refused _)
+      by-tests true false v e f g = rw e (refused _)
+      by-tests false true v e f g = rw (e, f) (refused _)
+      by-tests false false true e f g = rw (e, f, g) (refused _)
+      by-tests false false false e f g =
+          rw (e, f, g)
+          (goes (free (s .held) e) (ltb-false payloadMax (length payload) f) (ltb-false room (length (ownFrame (s .next) payload)) g))
 
   -- a timeout that is not refused: nothing is held, or the frame is sent again, or it is dropped
   pub by-waiting : (s .held ≡ none → P (record { sender = s; answer = idle; output = [] }))

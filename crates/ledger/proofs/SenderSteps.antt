@@ -8,7 +8,7 @@ use Prim.Native.Nat.{ℕ, _≤_, _<_}
 use lib.ListN.{length}
 use Rattle.refusals.specs.Numbers.{shortOutput}
 use Rattle.slices.specs.Put.{putAt}
-use Rattle.frame.specs.Content.{noPlace, payloadMax}
+use Rattle.frame.specs.Content.{noPlace}
 use Rattle.sender.specs.declared.state.Answer.the-variants as sender-says
 use Rattle.sender.specs.declared.state.Answer.the-variants.{Sent, Repeated, Dropped}
 use Rattle.display.specs.declared.Answer.the-variants.{Heard}
@@ -19,7 +19,7 @@ use Rattle.ledger.specs.Answers as answers
 use Rattle.ledger.specs.Answers.{Call}
 use Rattle.ledger.specs.Sending.{SenderStep, ownFrame, sends, repeatsMax, sendsAgain, drops, acknowledged}
 use Rattle.ledger.specs.Calls as calls
-use Rattle.ledger.specs.Calls.{Effect, repeated, closed, effectOf, withRun, senderStep, step}
+use Rattle.ledger.specs.Calls.{Effect, repeated, closed, effectOf, withRun, step}
 use Rattle.ledger.specs.Shown.{asAnswer, asSending, Left, took, ticked, outgoing, asLeft}
 use Rattle.ledger.specs.SentFrames as notice
 use Rattle.ledger.specs.SentFrames.{noticeOf, sentAgain, sequencesSent}

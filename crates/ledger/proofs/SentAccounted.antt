@@ -1,13 +1,12 @@
 -- 02, C-13: a frame that was sent is at any time held, acknowledged or reported as dropped, never lost silently: while no acknowledgement of
 -- its sequence is heard and no drop is reported, the sender holds it.
-use mathlib.Core.Path.{_≡_, refl, sym, ap, _∙_, subst}
+use mathlib.Core.Path.{_≡_, refl, sym, ap, _∙_}
 use mathlib.Core.Bool.{Bool, true, false, cond}
 use mathlib.Core.List.{List, [], _∷_, map}
 use mathlib.Core.Option.{Option, some, none}
-use Prim.Native.Nat.{ℕ, suc, _≤_, _<_}
+use Prim.Native.Nat.{ℕ, suc, _≤_}
 use native.Mathlib.Omega.{arith}
 use lib.Dec.{eqb}
-use lib.ListN.{length}
 use borrow.Author.Tests.{eq-eqb}
 use Rattle.slices.proofs.Impossible.{impossible}
 use Rattle.ledger.specs.Ledger.{Held, Sender, Ledger}
@@ -16,7 +15,7 @@ use Rattle.ledger.specs.Sending.{heldBehind}
 use Rattle.ledger.specs.Calls.{step, given, after}
 use Rattle.ledger.specs.Shown.{Left, asLeft}
 use Rattle.ledger.specs.SentFrames as fate
-use Rattle.ledger.specs.SentFrames.{Notice, noticeOf, Fate, fateBehind, fateOf}
+use Rattle.ledger.specs.SentFrames.{noticeOf, Fate, fateBehind, fateOf}
 use Rattle.ledger.proofs.SenderSteps.{step-case}
 
 -- what each fate says: held, so often sent again, by the ledger too; acknowledged after at most two repeats; dropped after both

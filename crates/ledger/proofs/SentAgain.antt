@@ -8,19 +8,14 @@ use Prim.Native.Nat.{ℕ, suc, _+_, _≤_, _<_}
 use native.Mathlib.Omega.{arith}
 use lib.Dec.{eqb}
 use lib.ListN.{length, take, replicate}
-use Rattle.slices.proofs.Impossible.{impossible}
 use Rattle.slices.specs.Put.{putAt}
 use Rattle.slices.proofs.PutLaws.{put-first}
-use Rattle.sender.specs.declared.state.Answer.the-variants.{Sent}
-use Rattle.display.specs.declared.Display.{Display}
-use Rattle.ledger.specs.Ledger.{Held, Sender, Ledger, start}
-use Rattle.ledger.specs.Answers.{WatchList, namesIn, Call, send}
-use Rattle.ledger.specs.Sending.{ownFrame, sends, heldBehind, acknowledged}
-use Rattle.ledger.specs.Calls.{step, given, after}
-use Rattle.ledger.specs.Shown.{Left, outgoing, asLeft}
+use Rattle.ledger.specs.Ledger.{Held, Sender, Ledger}
+use Rattle.ledger.specs.Answers.{Call}
+use Rattle.ledger.specs.Sending.{ownFrame, heldBehind}
+use Rattle.ledger.specs.Calls.{step, given}
+use Rattle.ledger.specs.Shown.{Left, asLeft}
 use Rattle.ledger.specs.SentFrames.{sentAgain}
-use Rattle.ledger.proofs.Chain.{Begins, Chain}
-use Rattle.ledger.proofs.EveryList.{chain-agrees, agreeing}
 use Rattle.ledger.proofs.SenderSteps.{step-case}
 
 -- the same frame, so many times, of which so many are gone already

@@ -7,7 +7,7 @@ use lib.Dec.{eqb, ltb}
 use lib.ListN.{length}
 use Rattle.refusals.specs.Numbers.{shortOutput}
 use Rattle.slices.specs.Put.{putAt}
-use Rattle.frame.specs.Content.{dataType, acknowledgementType, noPlace}
+use Rattle.frame.specs.Content.{acknowledgementType, noPlace}
 use Rattle.frame.specs.Writing as writing
 use Rattle.board.specs.Reading as reading
 use Rattle.board.specs.Reading.{Verdict, readingOf}

@@ -15,12 +15,12 @@ use Rattle.slices.specs.declared.Written.{Written}
 use Rattle.slices.specs.declared.Written.the-variants as answer
 use Rattle.frame.specs.Content.{dataType}
 use Rattle.frame.specs.Writing.{writeFrame}
-use Rattle.sender.specs.State.{kept, holding, repeated, freed, acknowledgedFrom, acknowledged}
-use Rattle.sender.specs.Events.{goesOut, sendFrom, sendOf, repeatsMax, sentAgain, timeoutFrom, timeoutOf, SendsAs}
+use Rattle.sender.specs.State.{kept, repeated, freed, acknowledgedFrom, acknowledged}
+use Rattle.sender.specs.Events.{goesOut, sentNext, sendFrom, sendOf, repeatsMax, sentAgain, timeoutFrom, timeoutOf, SendsAs}
 use Rattle.sender.specs.declared.state.Held.{Held}
 use Rattle.sender.specs.declared.state.Held.the-variants as held
 use Rattle.sender.specs.declared.state.Answer.{Answer}
-use Rattle.sender.specs.declared.state.Answer.the-variants.{Nothing, Refused, Sent, Repeated, Dropped}
+use Rattle.sender.specs.declared.state.Answer.the-variants.{Nothing, Refused, Repeated, Dropped}
 use Rattle.sender.specs.declared.state.Outcome.{Outcome}
 use Rattle.sender.specs.declared.state.Sender.{Sender}
 
@@ -75,8 +75,7 @@ module _ (s : Sender) (out : List ℕ) (r : Outcome) where
         subst⁻¹ (λ (h : Held). SendsAs (sendFrom h s payload (length out)) out r out) is (record { answers = told; sends = refl })
 
     pub send-goes : (out₁ : List ℕ) → s .held ≡ held.Nothing
-        → SendsAs (goesOut (writeFrame (length out) dataType (s .next) payload) s (holding s payload) (Sent (s .next))) out r out₁
-        → SendsAs (sendOf s payload (length out)) out r out₁
+        → SendsAs (sentNext s payload (length out)) out r out₁ → SendsAs (sendOf s payload (length out)) out r out₁
     unfolding sendOf
     send-goes out₁ is did = subst⁻¹ (λ (h : Held). SendsAs (sendFrom h s payload (length out)) out r out₁) is did
 

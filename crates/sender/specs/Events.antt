@@ -33,10 +33,14 @@ abbrev pub goesOut : Output → Sender → Sender → (ℕ → Answer) → Given
 goesOut (writer.written bytes) before behind says = record { outcome = record { sender = behind; answer = says (length bytes) }; output = bytes }
 goesOut (writer.refused n) before behind says = quiet before (Refused n)
 
+-- the frame of the next sequence, which is then held
+abbrev pub sentNext : Sender → List ℕ → ℕ → Given
+sentNext s payload room = goesOut (writeFrame room dataType (s .next) payload) s (holding s payload) (Sent (s .next))
+
 -- a send: 25, a frame is still waiting, before 8 and 7
 abbrev pub sendFrom : Held → Sender → List ℕ → ℕ → Given
 sendFrom (held.Frame sequence repeats) s payload room = quiet s (Refused frameWaiting)
-sendFrom held.Nothing s payload room = goesOut (writeFrame room dataType (s .next) payload) s (holding s payload) (Sent (s .next))
+sendFrom held.Nothing s payload room = sentNext s payload room
 
 unfoldable pub sendOf : Sender → List ℕ → ℕ → Given
 sendOf s payload room = sendFrom (s .held) s payload room

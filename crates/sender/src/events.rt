@@ -12,11 +12,8 @@ use refusals::FRAME_WAITING;
 ghost use mathlib.Core.Path.{_≡_};
 ghost use Prim.Native.Nat.{_<_};
 ghost use lib.ListN.{length};
-ghost use Rattle.frame.specs.Content.{dataType};
-ghost use Rattle.frame.specs.Writing.{writeFrame};
-ghost use Rattle.sender.specs.State.{holding, acknowledged};
-ghost use Rattle.sender.specs.Events.{repeatsMax, goesOut, sentAgain, sendOf, timeoutOf, SendsAs};
-ghost use Rattle.sender.specs.declared.state.Answer.the-variants.{Sent};
+ghost use Rattle.sender.specs.State.{acknowledged};
+ghost use Rattle.sender.specs.Events.{sentNext, sendOf, repeatsMax, sentAgain, timeoutOf, SendsAs};
 
 // How often a frame is sent again before it is dropped.
 const REPEATS_MAX: u8 = 2;
@@ -35,7 +32,7 @@ pub fn send(sender: Sender, payload: &[u8], output: &mut [u8]) -> Outcome
 
 // The frame of the next sequence.
 fn send_next(sender: Sender, payload: &[u8], output: &mut [u8]) -> Outcome
-    ensures { λ r. ⌜ SendsAs (goesOut (writeFrame (length (now (output .entry))) dataType (sender .next) (now (payload .entry))) sender (holding sender (now (payload .entry))) (Sent (sender .next))) (now (output .entry)) r (now (output .exit)) ⌝ }
+    ensures { λ r. ⌜ SendsAs (sentNext sender (now (payload .entry)) (length (now (output .entry)))) (now (output .entry)) r (now (output .exit)) ⌝ }
 {
     let sequence = sender.next;
     match write_frame(DATA, sequence, payload, output) {

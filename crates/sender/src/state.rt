@@ -1,7 +1,7 @@
 // The sender between two events, and what an event gives.
 use frame::PAYLOAD_MAX;
 ghost use mathlib.Core.Path.{_≡_};
-ghost use Rattle.sender.specs.State.{nextSequence, payloadOf, noPayload, freshSender, holding, repeated, freed};
+ghost use Rattle.sender.specs.State.{nextSequence, payloadOf, noPayload, freshSender, holding, freed};
 
 // The greatest sequence; the one behind it is 1, since 0 is the first alone.
 const LAST_SEQUENCE: u8 = 255;

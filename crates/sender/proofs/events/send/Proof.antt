@@ -1,5 +1,4 @@
 -- `sender::events::send` meets its contract: a frame that waits refuses it, else it is the next frame's.
-use mathlib.Core.Path.{_∙_}
 use Rattle.sender.proofs.EventLaws.{send-waits, send-goes}
 use borrow.Author.Needs.{needs}
 use Rattle.sender.proofs.events.send.Statement.{statement}

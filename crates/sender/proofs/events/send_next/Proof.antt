@@ -1,9 +1,7 @@
 -- `sender::events::send_next` meets its contract: what the writer refuses is refused, and what it wrote is held.
 use mathlib.Core.Path.{ap, _∙_}
-use Rattle.frame.specs.Writing.{writeFrame}
 use Rattle.sender.specs.State.{holding}
 use Rattle.sender.specs.declared.state.Answer.the-variants.{Sent}
-use Rattle.sender.specs.declared.state.Outcome.{Outcome}
 use Rattle.sender.specs.declared.state.Sender.{Sender}
 use Rattle.sender.proofs.EventLaws.{not-sent, went-out}
 use borrow.Author.Needs.{needs}

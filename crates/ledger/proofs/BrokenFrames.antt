@@ -11,7 +11,7 @@ use lib.ListN.{length}
 use Rattle.slices.proofs.Impossible.{impossible}
 use Rattle.refusals.specs.Numbers.{badFraming, longContent, badCheck, unknownType, loadedAcknowledgement}
 use Rattle.frame.specs.Content as content
-use Rattle.frame.specs.Content.{dataType, acknowledgementType, noPlace}
+use Rattle.frame.specs.Content.{noPlace}
 use Rattle.frame.specs.Places.{BadEscape, PassesLimit, FailsCheck, Places}
 use Rattle.frame.specs.Reading.{readRun}
 use Rattle.frame.proofs.RunPlaces.{run-places, escape-read, limit-read, check-read}
@@ -20,7 +20,7 @@ use Rattle.display.specs.declared.Answer.the-variants.{Refused}
 use Rattle.display.specs.declared.Display.{Display}
 use Rattle.ledger.specs.Ledger.{Ledger, start}
 use Rattle.ledger.specs.Frames as frames
-use Rattle.ledger.specs.Frames.{taken, byType, frameOf}
+use Rattle.ledger.specs.Frames.{dataType, acknowledgementType, taken, byType, frameOf}
 use Rattle.ledger.specs.Answers.{WatchList, namesIn, Call, piece}
 use Rattle.ledger.specs.Calls.{effectOf, withRun, after, replyRoom, packetRoom}
 use Rattle.ledger.specs.Shown.{asAnswer, Left, took}

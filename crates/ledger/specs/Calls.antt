@@ -7,7 +7,7 @@ use lib.Dec.{eqb, ltb}
 use lib.ListN.{length}
 use Rattle.refusals.specs.Numbers.{shortOutput}
 use Rattle.slices.specs.Put.{putAt}
-use Rattle.frame.specs.Content.{acknowledgementType, noPlace}
+use Rattle.frame.specs.Content.{noPlace}
 use Rattle.frame.specs.Writing as writing
 use Rattle.board.specs.Reading as reading
 use Rattle.board.specs.Reading.{Verdict, readingOf}
@@ -15,7 +15,7 @@ use Rattle.ledger.specs.Ledger.{Counts, Ledger, withLine, withSender, wi
 use Rattle.ledger.specs.Answers.{Call, piece, tick, send, timeout, Answer, nothing, refused, heard, again, new, Given, took, ticked, outgoing}
 use Rattle.ledger.specs.Sending.{SenderStep, acknowledged, sendStep, timeoutStep}
 use Rattle.ledger.specs.Frames as frames
-use Rattle.ledger.specs.Frames.{Frame, Taken, taken, frameOf}
+use Rattle.ledger.specs.Frames.{Frame, Taken, taken, acknowledgementType, frameOf}
 
 -- what a frame does: the ledger after it, the answer, and the bytes put at the start of the reply and of the packet buffer
 pub record Effect : Type 0 where

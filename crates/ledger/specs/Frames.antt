@@ -8,7 +8,7 @@ use lib.ListN.{length}
 use Rattle.refusals.specs.Numbers.{unknownType, loadedAcknowledgement}
 use Rattle.frame.specs.Stuffing.{flagByte}
 use Rattle.frame.specs.Content as content
-use Rattle.frame.specs.Content.{dataType, acknowledgementType, noPlace}
+use Rattle.frame.specs.Content.{noPlace}
 use Rattle.frame.specs.Reading.{readRun}
 
 -- each byte joins the run, if there is one
@@ -51,7 +51,14 @@ pub data Frame : Type 0 where
   acknowledgement : ℕ → Frame
   good : ℕ → List ℕ → Frame
 
--- a frame is unstuffed from the left and tested by 1 to 4, then by its type, 01 or 02: 5 and 6. 02, C-16: places are counted from the opening flag,
+-- type 01 is data, type 02 an acknowledgement
+abbrev pub dataType : ℕ
+dataType = 0x01
+
+abbrev pub acknowledgementType : ℕ
+acknowledgementType = 0x02
+
+-- a frame is unstuffed from the left and tested by 1 to 4, then by its type: 5 and 6. 02, C-16: places are counted from the opening flag,
 -- right before the run.
 abbrev pub byType : content.Read → Frame
 byType (content.refused n place) = refused n place

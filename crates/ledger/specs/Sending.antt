@@ -6,9 +6,10 @@ use mathlib.Core.Option.{Option, some, none}
 use lib.Dec.{eqb, ltb}
 use lib.ListN.{length}
 use Rattle.refusals.specs.Numbers.{shortOutput, longPayload, frameWaiting}
-use Rattle.frame.specs.Content.{dataType, payloadMax}
+use Rattle.frame.specs.Content.{payloadMax}
 use Rattle.frame.specs.Writing as writing
 use Rattle.ledger.specs.Ledger.{Held, Sender}
+use Rattle.ledger.specs.Frames.{dataType}
 use Rattle.ledger.specs.Answers.{Sending, idle, refused, sent, repeated, dropped}
 
 -- our frames have type 01: only those are acknowledged

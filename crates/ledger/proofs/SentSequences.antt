@@ -3,7 +3,7 @@ use mathlib.Core.Path.{_≡_, refl, ap, _∙_}
 use mathlib.Core.Bool.{Bool, true, false, cond}
 use mathlib.Core.List.{List, [], _∷_, map}
 use mathlib.Core.Option.{some}
-use Prim.Native.Nat.{ℕ, zero, suc, _%_}
+use Prim.Native.Nat.{ℕ, zero, suc}
 use native.Mathlib.Omega.{arith}
 use lib.Dec.{eqb}
 use lib.ListN.{length}
@@ -21,11 +21,11 @@ use Rattle.ledger.proofs.SenderSteps.{step-case}
 
 next-at : (place : ℕ) → nextSequence (sequenceAt place) ≡ sequenceAt (suc place)
 next-at zero = refl
-next-at (suc n) = by-last (eqb (suc (n % 255)) 255) refl
+next-at (suc n) = by-last (eqb (sequenceAt (suc n)) 255) refl
   where
-    by-last : (t : Bool) → eqb (suc (n % 255)) 255 ≡ t → cond t 1 (suc (suc (n % 255))) ≡ suc (suc n % 255)
-    by-last true e = let last = eqb-true (suc (n % 255)) 255 e in omega (arith, last)
-    by-last false e = let before = eqb-false (suc (n % 255)) 255 e in omega (arith, before)
+    by-last : (t : Bool) → eqb (sequenceAt (suc n)) 255 ≡ t → cond t 1 (suc (sequenceAt (suc n))) ≡ sequenceAt (suc (suc n))
+    by-last true e = let last = eqb-true (sequenceAt (suc n)) 255 e in omega (arith, last)
+    by-last false e = let before = eqb-false (sequenceAt (suc n)) 255 e in omega (arith, before)
 
 -- from a sender whose next sequence stands at a place
 module _ (names : List (List ℕ)) where

@@ -1,8 +1,8 @@
 -- The sender does what the ledger's sender does: the writer refuses what the rules refuse, in their order, and what is held is the payload
 -- that was sent, since it has at most the 383 bytes that there is room for.
-use mathlib.Core.Path.{_≡_, refl}
+use mathlib.Core.Path.{_≡_, refl, sym, ap}
 use mathlib.Core.Bool.{Bool, true, false, cond}
-use mathlib.Core.List.{List}
+use mathlib.Core.List.{List, []}
 use mathlib.Core.Option.{Option, some, none}
 use Prim.Native.Nat.{ℕ, _≤_}
 use native.Mathlib.Omega.{arith}
@@ -74,6 +74,12 @@ pub kept-whole : (payload : List ℕ) → length payload ≤ payloadMax → kept
 unfolding payloadOf
 kept-whole payload few = let room = length-replicate {A = ℕ} payloadMax 0 in put-first (replicate payloadMax 0) payload (omega (arith, few, room))
 
+-- an event that sends nothing asks no room
+no-room-asked : (s : Sender) (step : SenderStep) (room : ℕ) → step .output ≡ [] → withRoom room s step ≡ step
+no-room-asked s step room empty =
+    let few : length (step .output) ≤ room = rw empty (omega arith) in
+    rw (le-ltb room (length (step .output)) few)
+
 -- a timeout: the payload is within the limit, so the writer tests the room alone
 pub timeout-given : (s : Sender) (room : ℕ) → HeldFits s → timeoutOf (asSender s) room ≡ asGiven (timeoutStep s room)
 unfolding timeoutOf timeoutStep writeFrame writeContent fitted
@@ -96,11 +102,11 @@ timeout-given s room fits = by-held (s .held) fits
     by-repeats frame few true =
         rw (kept-whole (frame .payload) few, le-ltb payloadMax (length (frame .payload)) few)
         (again frame (ltb room (length (ownFrame (frame .sequence) (frame .payload)))))
-    by-repeats frame few false = rw (le-ltb room 0 (omega arith))
+    by-repeats frame few false = sym (ap asGiven (no-room-asked (holding frame) (drops (holding frame) frame) room refl))
 
     by-held : (held : Option Held) → HeldFits (record { next = s .next; held = held })
         → timeoutOf (asSender (record { next = s .next; held = held })) room ≡ asGiven (timeoutStep (record { next = s .next; held = held }) room)
-    by-held none fits = rw (le-ltb room 0 (omega arith))
+    by-held none fits = sym (ap asGiven (no-room-asked (record { next = s .next; held = none }) _ room refl))
     by-held (some frame) fits = by-repeats frame (fits frame refl) (ltb (frame .repeats) repeatsMax)
 
 -- a step of the sender keeps the limit

@@ -63,5 +63,5 @@ fn of_displays() {
         assert_eq!(answer, *printed);
     }
     assert_eq!(answers.lines().count(), printed.len());
-    assert!(printed.len() > 150);
+    assert!(printed.len() > 1000);
 }

@@ -1,4 +1,4 @@
--- 02, C-13, on calls that can be looked at: what each send and timeout answers and leaves in its output computes, and each fate of a frame is
+-- 02, C-13, on calls that can be looked at: what each send and timeout answers and leaves in its output computes, and each status of a frame is
 -- met.
 use mathlib.Core.Path.{_≡_, refl, _∙_}
 use mathlib.Core.List.{List, [], _∷_}
@@ -20,7 +20,7 @@ use Rattle.display.specs.declared.Display.{Display}
 use Rattle.ledger.specs.Answers.{one-by-one, Call, piece, send, timeout}
 use Rattle.ledger.specs.Calls.{given}
 use Rattle.ledger.specs.Sending.{sendStep, timeoutStep}
-use Rattle.ledger.specs.SentFrames.{held, acknowledged, dropped, fateOf, sequenceAt}
+use Rattle.ledger.specs.SentFrames.{held, acknowledged, dropped, statusOf, repeatsSent, dropsReported, sequencesSent, sequenceAt}
 use Rattle.ledger.specs.Shown.{Left, took, outgoing}
 use Rattle.ledger.proofs.Chain.{Begins, Chain, done, sends}
 use Rattle.ledger.proofs.EveryListRuns.{sent-by, every-list-runs}
@@ -116,19 +116,31 @@ first-accounted more =
     let behind = withSender fresh (holding freshSender (0x41 ∷ [])) in
     never-lost names (one-by-one names) refl fresh begins [] [] fresh done (0x41 ∷ []) (room 7) 0 7 first behind sent-first more _ _ (every-list-runs behind more .chain)
 
--- each fate, read off what the calls behind a send left
-pub record Fates : Type 0 where
-  pub waits : fateOf 0 0 [] ≡ held 0
-  pub waits-repeated : fateOf 0 0 (outgoing (Repeated 0 7) first ∷ took 6 (Heard 1) (room 9) (room 383) ∷ []) ≡ held 1
+-- each status, read off what the calls behind a send left; another frame, its repeats, its drop and another acknowledgement tell nothing of
+-- this one
+pub record Statuses : Type 0 where
+  pub waits : statusOf 0 0 [] ≡ held 0
+  pub waits-repeated : statusOf 0 0 (outgoing (Repeated 0 7) first ∷ took 6 (Heard 1) (room 9) (room 383) ∷ []) ≡ held 1
   pub is-heard :
-      fateOf 0 0 (outgoing (Repeated 0 7) first ∷ took 5 (Heard 0) (room 9) (room 383) ∷ outgoing (says.Refused 8) [] ∷ []) ≡ acknowledged 1
-  pub is-dropped : fateOf 0 0 (outgoing (Repeated 0 7) first ∷ outgoing (Repeated 0 7) first ∷ outgoing (Dropped 0) [] ∷ []) ≡ dropped 2
+      statusOf 0 0 (outgoing (Repeated 0 7) first ∷ took 5 (Heard 0) (room 9) (room 383) ∷ outgoing (says.Refused 8) [] ∷ []) ≡ acknowledged 1
+  pub others : statusOf 0 0 (outgoing (Sent 1 6) second ∷ outgoing (Repeated 1 6) second ∷ outgoing (Dropped 1) [] ∷ outgoing says.Nothing [] ∷ []) ≡ held 0
+  pub is-dropped : statusOf 0 0 (outgoing (Repeated 0 7) first ∷ outgoing (Repeated 0 7) first ∷ outgoing (Dropped 0) [] ∷ []) ≡ dropped 2
 
-pub fates : Fates
-unfolding fateOf
-fates = record { waits = refl; waits-repeated = refl; is-heard = refl; is-dropped = refl }
+pub statuses : Statuses
+unfolding statusOf
+statuses = record { waits = refl; waits-repeated = refl; is-heard = refl; others = refl; is-dropped = refl }
 
--- the sequences of the first frames, of the 255th to the 257th, and of the 511th and the 512th behind the first
+-- what is read off these calls: the sequences sent, the repeats up to the next frame, and the drops reported up to it
+pub record ReadOff : Type 0 where
+  pub sequences-sent : sequencesSent lostLeft ≡ 0 ∷ 1 ∷ []
+  pub repeats : repeatsSent (outgoing (Repeated 0 7) first ∷ took 6 (Heard 1) (room 9) (room 383) ∷ outgoing (Repeated 0 7) first ∷ outgoing (Sent 1 6) second ∷ outgoing (Repeated 1 6) second ∷ []) ≡ first ∷ first ∷ []
+  pub drops : dropsReported (outgoing (Dropped 0) [] ∷ outgoing says.Nothing [] ∷ outgoing (Sent 1 6) second ∷ outgoing (Dropped 1) [] ∷ []) ≡ 0 ∷ []
+
+pub read-off : ReadOff
+unfolding sequencesSent repeatsSent dropsReported
+read-off = record { sequences-sent = refl; repeats = refl; drops = refl }
+
+-- the sequences of the first frames, of the 255th to the 257th, and of the 511th and the 512th
 pub record Sequences : Type 0 where
   pub first-ones : (sequenceAt 0 ≡ 0) × ((sequenceAt 1 ≡ 1) × (sequenceAt 2 ≡ 2))
   pub at-the-end : (sequenceAt 254 ≡ 254) × ((sequenceAt 255 ≡ 255) × (sequenceAt 256 ≡ 1))

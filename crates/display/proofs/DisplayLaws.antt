@@ -14,7 +14,7 @@ use Rattle.display.specs.Sending.{sentBy, SendsAs}
 use Rattle.display.specs.declared.Answer as declared
 use Rattle.display.specs.declared.Display.{Display}
 use Rattle.display.specs.declared.Received.{Received}
-use Rattle.display.specs.declared.Sent.{Sent}
+use Rattle.display.specs.declared.sending.Outgoing.{Outgoing}
 use Rattle.link.specs.declared.receiver.Answer as link-answer
 use Rattle.link.specs.declared.receiver.Received as link-received
 use Rattle.link.specs.Receiving.{Call, ReceivesAs}
@@ -47,6 +47,6 @@ module _ (sender : Sender) (board : Board) (call : Call) (reply₀ packet₀ rep
       ∙ ap (λ (x : Reading). takeReading (received call) sender r n x) read)
 
 -- what the sender did, with link and board as they were
-pub sent-on : (display : Display) (given : Given) (output output₁ : List ℕ) (outcome : sender-outcome.Outcome) (result : Sent)
+pub sent-on : (display : Display) (given : Given) (output output₁ : List ℕ) (outcome : sender-outcome.Outcome) (result : Outgoing)
     → events.SendsAs given output outcome output₁ → result ≡ sentBy display outcome → SendsAs display given output result output₁
 sent-on display given output output₁ outcome result did is = record { answers = is ∙ ap (sentBy display) (did .answers); sends = did .sends }

@@ -1,14 +1,17 @@
 // What the shed display runs: bytes from the module go in by pieces and minutes by ticks, our own
 // frames go out by sends and timeouts, over the link's state, the sender and the board.
+mod sending;
+
 use link::receiver::Link;
 use link::receiver::count_unread;
 use rows::Board;
 use sender::Sender;
+pub use sending::Outgoing;
+pub use sending::send;
+pub use sending::timeout;
 ghost use mathlib.Core.Path.{_≡_};
 ghost use lib.ListN.{length};
-ghost use Rattle.sender.specs.Events.{sendOf, timeoutOf};
 ghost use Rattle.display.specs.Display.{countReading, takeReading, keepBoard, fresh, tickDisplay, receivePiece, DisplaysAs};
-ghost use Rattle.display.specs.Sending.{sentBy, SendsAs};
 
 pub struct Display {
     pub link: Link,
@@ -40,12 +43,6 @@ pub struct Received {
     pub answer: Answer,
 }
 
-// What a send or a timeout gave.
-pub struct Sent {
-    pub display: Display,
-    pub answer: sender::Answer,
-}
-
 // A display before the first byte, with a board.
 pub fn start(board: Board) -> Display
     ensures { λ r. ⌜ r ≡ fresh board ⌝ }
@@ -71,46 +68,6 @@ pub fn tick(display: Display) -> Display
         link,
         sender,
         board: ticked,
-    }
-}
-
-// Sends a payload in a data frame, and holds it until the module has acknowledged it. While a frame is
-// still waiting this is refusal 25, for a payload over 383 bytes 8, for an output too short for the
-// frame 7.
-pub fn send(display: Display, payload: &[u8], output: &mut [u8]) -> Sent
-    ensures { λ r. ⌜ SendsAs display (sendOf (display .sender) (now (payload .entry)) (length (now (output .entry)))) (now (output .entry)) r (now (output .exit)) ⌝ }
-{
-    let sender = display.sender;
-    let outcome = sender::send(sender, payload, output);
-    with_sender(display, outcome)
-}
-
-// No acknowledgement came in time: the held frame is sent again the first two times, where an output
-// too short for it is refusal 7; the third time it is dropped and reported. With nothing held nothing
-// happens.
-pub fn timeout(display: Display, output: &mut [u8]) -> Sent
-    ensures { λ r. ⌜ SendsAs display (timeoutOf (display .sender) (length (now (output .entry)))) (now (output .entry)) r (now (output .exit)) ⌝ }
-{
-    let sender = display.sender;
-    let outcome = sender::timeout(sender, output);
-    with_sender(display, outcome)
-}
-
-// The display with the sender that an event left.
-fn with_sender(display: Display, outcome: sender::Outcome) -> Sent
-    ensures { λ r. ⌜ r ≡ sentBy display outcome ⌝ }
-{
-    let link = display.link;
-    let sender = outcome.sender;
-    let board = display.board;
-    let answer = outcome.answer;
-    Sent {
-        display: Display {
-            link,
-            sender,
-            board,
-        },
-        answer,
     }
 }
 

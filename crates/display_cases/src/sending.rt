@@ -3,13 +3,13 @@ use cases::buffer::UNTOUCHED;
 use cases::line;
 use cases::print;
 use display::Display;
-use display::Sent;
+use display::Outgoing;
 use sender::Answer;
 use sender::Held;
 use sender::Payload;
 ghost use mathlib.Core.Path.{_≡_};
 
-// The longest output that is lent: the longest frame has 776 bytes.
+// The longest output that is lent: the longest frame of ours has 774 bytes.
 const OUTPUT_MAX: usize = 800;
 
 // The first two bytes are the length of the lent output, high byte first.
@@ -42,7 +42,7 @@ fn take_event(display: Display, line: &[u8], payload: &[u8], output: &mut [u8]) 
 }
 
 // Prints what an event gave, and the whole lent output; the display after it.
-fn shown(sent: Sent, output: &[u8]) -> Display
+fn shown(sent: Outgoing, output: &[u8]) -> Display
     ensures { λ r. ⌜ r ≡ sent .display ⌝ }
 {
     let answer = sent.answer;

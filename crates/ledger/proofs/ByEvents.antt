@@ -1,5 +1,5 @@
--- The ledger event by event: what one byte, one minute, one send or one timeout does to it, what it tells, and which frame it closes. Histories one behind the
--- other do one after the other.
+-- The ledger event by event: what one byte, one minute, one send or one timeout does to it, what it tells, and which frame it closes.
+-- Histories one behind the other do one after the other.
 use mathlib.Core.Path.{_≡_, refl, sym, ap, _∙_}
 use mathlib.Core.Bool.{Bool, true, false, cond}
 use mathlib.Core.List.{List, [], _∷_, _++_, append-assoc}

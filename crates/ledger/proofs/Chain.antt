@@ -17,7 +17,7 @@ use Rattle.display.specs.Display.{receivePiece, DisplaysAs}
 use Rattle.display.specs.Sending.{SendsAs}
 use Rattle.display.specs.declared.Display.{Display}
 use Rattle.display.specs.declared.Received.{Received}
-use Rattle.display.specs.declared.Sent.{Sent}
+use Rattle.display.specs.declared.sending.Outgoing.{Outgoing}
 use Rattle.display.proofs.receive.Reads as receive
 use Rattle.display.proofs.send.Reads as send
 use Rattle.display.proofs.start.Reads as start
@@ -42,7 +42,7 @@ pub record Receives (d : Display) (bytes reply packet : List ℕ) (result : Rece
 
 -- one call of `display::send`, and of `display::timeout`: the slices lent hold the payload and the output as it was, and at exit the output as
 -- it is
-pub record Sends (d : Display) (payload output : List ℕ) (result : Sent) (output₁ : List ℕ) : Type 0 where
+pub record Sends (d : Display) (payload output : List ℕ) (result : Outgoing) (output₁ : List ℕ) : Type 0 where
   pub lifetimes : Lfts 2
   pub payload-lent : Lent payload
   pub output-lent : Lent output
@@ -52,7 +52,7 @@ pub record Sends (d : Display) (payload output : List ℕ) (result : Sent) (outp
       send.Learnt lifetimes (d, (payload-lent .slice, (output-lent .slice, tt))) result
       (d, (payload-lent .slice, (output-left .slice, tt)))
 
-pub record TimesOut (d : Display) (output : List ℕ) (result : Sent) (output₁ : List ℕ) : Type 0 where
+pub record TimesOut (d : Display) (output : List ℕ) (result : Outgoing) (output₁ : List ℕ) : Type 0 where
   pub lifetimes : Lfts 1
   pub output-lent : Lent output
   pub output-left : Lent output₁
@@ -90,10 +90,10 @@ pub data Chain : Display → List Call → List Left → Display → Type 0 wher
       → Receives d bytes reply packet result reply₁ packet₁ → Chain (result .display) cs left d₁
       → Chain d (answers.piece bytes reply packet ∷ cs) (took (result .taken) (result .answer) reply₁ packet₁ ∷ left) d₁
   ticks : {d d₁ d₂ : Display} {cs : List Call} {left : List Left} → Ticks d d₁ → Chain d₁ cs left d₂ → Chain d (answers.tick ∷ cs) (ticked ∷ left) d₂
-  sends : {d d₁ : Display} {payload output output₁ : List ℕ} {result : Sent} {cs : List Call} {left : List Left}
+  sends : {d d₁ : Display} {payload output output₁ : List ℕ} {result : Outgoing} {cs : List Call} {left : List Left}
       → Sends d payload output result output₁ → Chain (result .display) cs left d₁
       → Chain d (answers.send payload output ∷ cs) (outgoing (result .answer) output₁ ∷ left) d₁
-  times-out : {d d₁ : Display} {output output₁ : List ℕ} {result : Sent} {cs : List Call} {left : List Left}
+  times-out : {d d₁ : Display} {output output₁ : List ℕ} {result : Outgoing} {cs : List Call} {left : List Left}
       → TimesOut d output result output₁ → Chain (result .display) cs left d₁
       → Chain d (answers.timeout output ∷ cs) (outgoing (result .answer) output₁ ∷ left) d₁
 
@@ -103,10 +103,10 @@ pub received : {d : Display} {bytes reply packet reply₁ packet₁ : List ℕ} 
 received r =
     rw (r .piece-lent .holds, r .reply-lent .holds, r .packet-lent .holds, r .reply-left .holds, r .packet-left .holds) at (r .learnt)
 
-pub sent : {d : Display} {payload output output₁ : List ℕ} {result : Sent} → Sends d payload output result output₁
+pub sent : {d : Display} {payload output output₁ : List ℕ} {result : Outgoing} → Sends d payload output result output₁
     → SendsAs d (sendOf (d .sender) payload (length output)) output result output₁
 sent r = rw (r .payload-lent .holds, r .output-lent .holds, r .output-left .holds) at (r .learnt)
 
-pub timed-out : {d : Display} {output output₁ : List ℕ} {result : Sent} → TimesOut d output result output₁
+pub timed-out : {d : Display} {output output₁ : List ℕ} {result : Outgoing} → TimesOut d output result output₁
     → SendsAs d (timeoutOf (d .sender) (length output)) output result output₁
 timed-out r = rw (r .output-lent .holds, r .output-left .holds) at (r .learnt)

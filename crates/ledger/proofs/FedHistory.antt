@@ -9,7 +9,7 @@ use Rattle.board.proofs.NameLaws.{Fits}
 use Rattle.sender.specs.declared.state.Answer as sender-answer
 use Rattle.display.specs.declared.Display.{Display}
 use Rattle.display.specs.declared.Received.{Received}
-use Rattle.display.specs.declared.Sent.{Sent}
+use Rattle.display.specs.declared.sending.Outgoing.{Outgoing}
 use Rattle.ledger.specs.Ledger.{Ledger, withSender, start}
 use Rattle.ledger.specs.Answers.{WatchList, namesIn, Call, piece, tick, send, timeout}
 use Rattle.ledger.specs.Sending.{sendStep, timeoutStep}
@@ -36,10 +36,10 @@ pub data Feeds : Display → List Part → List Call → List Left → Display �
       → Feeds d (cut bytes ∷ parts) (piece bytes reply packet ∷ cs) (took (result .taken) (result .answer) reply₁ packet₁ ∷ left) d₁
   paused : {d d₁ d₂ : Display} {parts : List Part} {cs : List Call} {left : List Left} → Ticks d d₁ → Feeds d₁ parts cs left d₂
       → Feeds d (pause ∷ parts) (tick ∷ cs) (ticked ∷ left) d₂
-  asked : {d d₁ : Display} {payload output output₁ : List ℕ} {result : Sent} {parts : List Part} {cs : List Call} {left : List Left}
+  offered-send : {d d₁ : Display} {payload output output₁ : List ℕ} {result : Outgoing} {parts : List Part} {cs : List Call} {left : List Left}
       → Sends d payload output result output₁ → Feeds (result .display) parts cs left d₁
       → Feeds d (part.send payload output ∷ parts) (send payload output ∷ cs) (outgoing (result .answer) output₁ ∷ left) d₁
-  waited : {d d₁ : Display} {output output₁ : List ℕ} {result : Sent} {parts : List Part} {cs : List Call} {left : List Left}
+  offered-timeout : {d d₁ : Display} {output output₁ : List ℕ} {result : Outgoing} {parts : List Part} {cs : List Call} {left : List Left}
       → TimesOut d output result output₁ → Feeds (result .display) parts cs left d₁
       → Feeds d (part.timeout output ∷ parts) (timeout output ∷ cs) (outgoing (result .answer) output₁ ∷ left) d₁
 
@@ -48,8 +48,8 @@ fed-chain fed = done
 fed-chain (all-taken rest) = fed-chain rest
 fed-chain (offered r rest) = receives r (fed-chain rest)
 fed-chain (paused t rest) = ticks t (fed-chain rest)
-fed-chain (asked s rest) = sends s (fed-chain rest)
-fed-chain (waited t rest) = times-out t (fed-chain rest)
+fed-chain (offered-send s rest) = sends s (fed-chain rest)
+fed-chain (offered-timeout t rest) = times-out t (fed-chain rest)
 
 -- the history that a stream makes, event by event: what is refused is no part of it
 unfoldable pub acceptedFrom : Ledger → List Offer → List Event
@@ -100,12 +100,12 @@ module _ {count : ℕ} (names : List (List ℕ)) (fit : Fits names) where
   fed-accepted (paused {d = d} t rest) l a =
       let first = tick-agrees names l d a in
       ap (λ (es : List Event). event.minute ∷ es) (fed-accepted rest (happens l event.minute .ledger) (rw t (first .agrees)))
-  fed-accepted (asked {d = d} {payload = payload} {output = output} s rest) l a =
+  fed-accepted (offered-send {d = d} {payload = payload} {output = output} s rest) l a =
       let first = send-agrees names l d a payload output _ _ (sent s) in
       let told = told-answer (first .gives) in
       ap₂ (λ (x : sender-answer.Answer) (es : List Event). unlessRefused x (event.send payload) ++ es) told
       (fed-accepted rest (withSender l (sendStep (l .sender) payload (length output) .sender)) (first .agrees))
-  fed-accepted (waited {d = d} {output = output} t rest) l a =
+  fed-accepted (offered-timeout {d = d} {output = output} t rest) l a =
       let first = timeout-agrees names l d a output _ _ (timed-out t) in
       let told = told-answer (first .gives) in
       ap₂ (λ (x : sender-answer.Answer) (es : List Event). unlessRefused x event.timeout ++ es) told

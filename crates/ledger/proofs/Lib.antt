@@ -42,8 +42,9 @@ pub mod DamagedFrames
 pub mod SenderByHistory
 pub mod SenderSteps
 pub mod SentSequences
-pub mod SentAgain
+pub mod NothingHeld
 pub mod SentAccounted
 pub mod NeverLost
 pub mod RefusedEvents
+pub mod RefusedExactly
 pub mod SenderCalls

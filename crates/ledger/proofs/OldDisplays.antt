@@ -127,7 +127,7 @@ pub seventeenth-refused : (names : List (List ℕ)) (name : List ℕ) → Good o
     → oldWatched names name ≡ refusedWith (boardOf oldRowCount names)
 seventeenth-refused names name good full = watch-refused names name good (join-full oldRowCount names name (omega arith))
 
--- What is shown afterwards. The contracts of `display::receive` and `display::tick` do not ask for the number of rows, so a chain of calls
+-- What is shown afterwards. The contracts of the display's calls do not ask for the number of rows, so a chain of calls
 -- speaks of an old display too; it starts with the board of sixteen rows that the list gave it (`old-accepts`).
 abbrev pub oldStart : List (List ℕ) → Display
 oldStart names = display.fresh (boardOf oldRowCount names)

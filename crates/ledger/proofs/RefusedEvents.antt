@@ -21,12 +21,12 @@ use Rattle.display.specs.Sending.{withSender, SendsAs}
 use Rattle.display.specs.declared.Answer.{Answer}
 use Rattle.display.specs.declared.Answer.the-variants.{Nothing, Refused, Heard, Again, New}
 use Rattle.display.specs.declared.Display.{Display}
-use Rattle.display.specs.declared.Sent.{Sent}
+use Rattle.display.specs.declared.sending.Outgoing.{Outgoing}
 use Rattle.ledger.specs.Answers as answers
 use Rattle.ledger.specs.Answers.{WatchList, namesIn, Call}
 use Rattle.ledger.specs.Calls.{replyRoom, packetRoom}
 use Rattle.ledger.specs.Shown.{Left, took, ticked, outgoing}
-use Rattle.ledger.specs.History.{refusedPiece, refusedEvent, eventsOf}
+use Rattle.ledger.specs.History.{refusedPiece, refusedSending, refusedEvent, eventsOf}
 use Rattle.ledger.proofs.Chain.{Begins, Chain, done, receives, ticks, sends, times-out, sent, timed-out}
 use Rattle.ledger.proofs.RefusedFrames.{refused-frame}
 use Rattle.ledger.proofs.ShortCalls.{short-buffer}
@@ -48,43 +48,41 @@ pub record ChangesNothing (c : Call) (left : Left) (before behind : Display) : T
   pub buffers-kept : leftIn left ≡ lentTo c
   pub no-event : eventsOf c left ≡ []
 
--- a display that keeps its link, its sender and its board is as it was
-sender-kept : (d : Display) (given : Given) (output : List ℕ) (result : Sent) (output₁ : List ℕ) → SendsAs d given output result output₁ → Keeps (d .sender) given
-    → (result .display ≡ d) × (output₁ ≡ output)
-sender-kept d given output result output₁ does keeps =
-    (ap (λ (r : Sent). r .display) (does .answers) ∙ ap (withSender d) (keeps .sender), does .sends ∙ ap (putAt output 0) (keeps .output))
-
 -- the number of a refused send or timeout
 record Refusal (answer : sender-answer.Answer) : Type 0 where
   number : ℕ
   is : answer ≡ sender-says.Refused number
 
-refusal-of : (answer : sender-answer.Answer) (output : List ℕ) → refusedEvent (outgoing answer output) ≡ true → Refusal answer
-refusal-of sender-says.Nothing output e = impossible cc
-refusal-of (sender-says.Refused n) output e = record { number = n; is = refl }
-refusal-of (sender-says.Sent sequence size) output e = impossible cc
-refusal-of (sender-says.Repeated sequence size) output e = impossible cc
-refusal-of (sender-says.Dropped sequence) output e = impossible cc
+refusal-of : (answer : sender-answer.Answer) → refusedSending answer ≡ true → Refusal answer
+refusal-of sender-says.Nothing e = impossible cc
+refusal-of (sender-says.Refused n) e = record { number = n; is = refl }
+refusal-of (sender-says.Sent sequence size) e = impossible cc
+refusal-of (sender-says.Repeated sequence size) e = impossible cc
+refusal-of (sender-says.Dropped sequence) e = impossible cc
+
+-- what the sender refuses leaves the display and the output as they were
+kept-by : (d : Display) (given : Given) (output : List ℕ) (result : Outgoing) (output₁ : List ℕ) → SendsAs d given output result output₁
+    → ((n : ℕ) → given .outcome .answer ≡ sender-says.Refused n → Keeps (d .sender) given) → refusedSending (result .answer) ≡ true
+    → (result .display ≡ d) × (output₁ ≡ output)
+kept-by d given output result output₁ does keeps e =
+    let refusal = refusal-of (result .answer) e in
+    let told = ap (λ (r : Outgoing). r .answer) (does .answers) in
+    let kept = keeps (refusal .number) (sym told ∙ refusal .is) in
+    (ap (λ (r : Outgoing). r .display) (does .answers) ∙ ap (withSender d) (kept .sender), does .sends ∙ ap (putAt output 0) (kept .output))
 
 -- THEOREM. A refused send leaves the display and the output as they were, whatever the display, and is no part of the history.
 pub refused-send : (d d₁ : Display) (payload output : List ℕ) (left : Left) → Chain d (answers.send payload output ∷ []) (left ∷ []) d₁ → refusedEvent left ≡ true
     → ChangesNothing (answers.send payload output) left d d₁
 refused-send d d₁ payload output left (sends {output₁ = output₁} {result = result} s done) e =
-    let refusal = refusal-of (result .answer) output₁ e in
-    let told = ap (λ (r : Sent). r .answer) (sent s .answers) in
-    let keeps = refused-send-keeps (d .sender) payload (length output) (refusal .number) (sym told ∙ refusal .is) in
-    let kept = sender-kept d _ output result output₁ (sent s) keeps in
-    record { display-kept = kept .0; buffers-kept = ap (λ (o : List ℕ). o ∷ []) (kept .1); no-event = rw (refusal .is) }
+    let kept = kept-by d _ output result output₁ (sent s) (refused-send-keeps (d .sender) payload (length output)) e in
+    record { display-kept = kept .0; buffers-kept = ap (λ (o : List ℕ). o ∷ []) (kept .1); no-event = rw e }
 
 -- THEOREM. And so a refused timeout.
 pub refused-timeout : (d d₁ : Display) (output : List ℕ) (left : Left) → Chain d (answers.timeout output ∷ []) (left ∷ []) d₁ → refusedEvent left ≡ true
     → ChangesNothing (answers.timeout output) left d d₁
 refused-timeout d d₁ output left (times-out {output₁ = output₁} {result = result} t done) e =
-    let refusal = refusal-of (result .answer) output₁ e in
-    let told = ap (λ (r : Sent). r .answer) (timed-out t .answers) in
-    let keeps = refused-timeout-keeps (d .sender) (length output) (refusal .number) (sym told ∙ refusal .is) in
-    let kept = sender-kept d _ output result output₁ (timed-out t) keeps in
-    record { display-kept = kept .0; buffers-kept = ap (λ (o : List ℕ). o ∷ []) (kept .1); no-event = rw (refusal .is) }
+    let kept = kept-by d _ output result output₁ (timed-out t) (refused-timeout-keeps (d .sender) (length output)) e in
+    record { display-kept = kept .0; buffers-kept = ap (λ (o : List ℕ). o ∷ []) (kept .1); no-event = rw e }
 
 -- a refused piece: with room it would be a frame's refusal, from 1 to 6
 module _ (names : List (List ℕ)) (w : WatchList) (listed : namesIn w ≡ some names) (d : Display) (begins : Begins w d)

@@ -1,4 +1,4 @@
--- DEMAND 1 of the display, a bad frame: it is off the line and counted, and buffers, board and last sequence are as they were, since a frame
+-- DEMAND 1 of the display, a bad frame: it is off the line and counted, and buffers, board, last sequence and sender are as they were, since a frame
 -- that is refused hands nothing out.
 use mathlib.Core.Path.{_≡_, sym, ap, ap₂, _∙_}
 use mathlib.Core.Bool.{Bool, true, false, cond}
@@ -20,7 +20,7 @@ use Rattle.ledger.specs.Frames.{Frame, Taken, taken, frameOf}
 use Rattle.ledger.specs.Answers.{WatchList, namesIn, Call, piece}
 use Rattle.ledger.specs.Calls as calls
 use Rattle.ledger.specs.Calls.{Effect, repeated, closed, effectOf, withRun, pieceStep, step, after, replyRoom, packetRoom}
-use Rattle.ledger.specs.Shown.{asCounts, asEntry, asAnswer, Left, took, asLeft}
+use Rattle.ledger.specs.Shown.{asCounts, asSender, asEntry, asAnswer, Left, took, asLeft}
 use Rattle.ledger.specs.History.{Event, byte, history}
 use Rattle.ledger.specs.ClosedFrames.{Closes}
 use Rattle.ledger.proofs.CountAgreement.{count-refused}
@@ -42,6 +42,7 @@ record Kept (l : Ledger) (n place : ℕ) (frame : Option (List ℕ)) : Type 0 wh
   entries : effectOf l frame .ledger .hives .entries ≡ l .hives .entries
   counts : effectOf l frame .ledger .line .counts ≡ plusRefused n (l .line .counts)
   sequence : effectOf l frame .ledger .line .sequence ≡ l .line .sequence
+  sender : effectOf l frame .ledger .sender ≡ l .sender
 
 module _ (names : List (List ℕ)) (n place : ℕ) (l : Ledger) where
   pub frame-refused : (f : Frame) → asAnswer names (closed l f .answer) ≡ Refused n place → f ≡ frames.refused n place
@@ -61,18 +62,10 @@ module _ (names : List (List ℕ)) (n place : ℕ) (l : Ledger) where
   effect-kept none e = impossible cc
   effect-kept (some run) e =
       let is = frame-refused (frameOf run) e in
-      record {
-        number = frame-number run n place is;
-        closes = ap (λ (f : Frame). f ∷ []) is;
-        reply = rw is;
-        packet = rw is;
-        entries = rw is;
-        counts = rw is;
-        sequence = rw is;
-      }
+      record { number = frame-number run n place is; closes = ap (λ (f : Frame). f ∷ []) is; reply = rw is; packet = rw is; entries = rw is; counts = rw is; sequence = rw is; sender = rw is }
 
 -- a call with room that is answered by a refusal, from 1 to 6: the frame is off the line, one more is counted under its number, and the
--- buffers, the board and the last sequence are as they were
+-- buffers, the board, the last sequence and the sender are as they were
 pub record OffTheLine (n place : ℕ) (events further : List Event) (reply packet : List ℕ) (before : Display) (reply₁ packet₁ : List ℕ) (behind : Display) : Type 0 where
   pub number : (1 ≤ n) × (n ≤ 6)
   pub closes : Closes events further (frames.refused n place)
@@ -80,6 +73,7 @@ pub record OffTheLine (n place : ℕ) (events further : List Event) (reply packe
   pub packet-kept : packet₁ ≡ packet
   pub board-kept : behind .board ≡ before .board
   pub last-kept : behind .link .last ≡ before .link .last
+  pub sender-kept : behind .sender ≡ before .sender
   pub counts : behind .link .counts ≡ countOf (event.Refused n) (before .link .counts)
 
 module _ (names : List (List ℕ)) (cs : List Call) (left : List Left) (end : Display) (a : Agreeing names cs left end)
@@ -130,6 +124,10 @@ module _ (names : List (List ℕ)) (cs : List Call) (left : List Left) (end : Di
             one .agrees .last-is
             ∙ ap (λ (m : Ledger). asLast (m .line .sequence)) ledger-is
             ∙ rw (kept .sequence) (sym (a .all .agrees .last-is));
+        sender-kept =
+            one .agrees .sender-is
+            ∙ ap (λ (m : Ledger). asSender (m .sender)) ledger-is
+            ∙ rw (kept .sender) (sym (a .all .agrees .sender-is));
         counts =
             one .agrees .counts-are
             ∙ ap (λ (m : Ledger). asCounts (m .line .counts)) ledger-is

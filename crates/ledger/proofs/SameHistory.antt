@@ -1,5 +1,6 @@
--- DEMAND 3, cuts of the byte stream do not matter: what the calls took, the ticks, the sends and the timeouts settle the ledger, so lists of calls with the same
--- history are alike in all that they answered and handed out, in counts and board, and in all that comes behind.
+-- DEMAND 3, cuts of the byte stream do not matter: what the calls took, the ticks, the sends and the timeouts settle the ledger, so lists of
+-- calls with the same history are alike in all that they answered and handed out, in counts, board and sender, and in all that comes
+-- behind.
 use mathlib.Core.Path.{_≡_, sym, ap, _∙_}
 use mathlib.Core.List.{List, map}
 use mathlib.Core.Option.{some}

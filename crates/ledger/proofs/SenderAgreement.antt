@@ -27,7 +27,7 @@ use Rattle.ledger.specs.Shown.{asSender, asSending}
 use Rattle.ledger.proofs.SenderLaws.{by-send, by-waiting, by-timeout}
 
 -- an acknowledgement
-pub acknowledged-agrees : (s : Sender) (sequence : ℕ) → state.acknowledged (asSender s) sequence ≡ asSender (acknowledged sequence s)
+pub acknowledged-agrees : (s : Sender) (sequence : ℕ) → state.acknowledged (asSender s) sequence ≡ asSender (acknowledged s sequence)
 acknowledged-agrees s sequence = by-held (s .held) refl
   where
     by-sequence : (frame : Held) (t : Bool)
@@ -36,7 +36,7 @@ acknowledged-agrees s sequence = by-held (s .held) refl
     by-sequence frame true = refl
     by-sequence frame false = refl
 
-    by-held : (held : Option Held) → s .held ≡ held → state.acknowledged (asSender s) sequence ≡ asSender (acknowledged sequence s)
+    by-held : (held : Option Held) → s .held ≡ held → state.acknowledged (asSender s) sequence ≡ asSender (acknowledged s sequence)
     by-held none e = rw e
     by-held (some frame) e = rw e (by-sequence frame (eqb sequence (frame .sequence)))
 
@@ -123,7 +123,7 @@ timeout-fits s room fits =
     (λ frame e few again f. let same : frame .payload ≡ again .payload = cc in rw (← same) (fits frame e))
     (λ frame e many again f. impossible cc))
 
-pub acknowledged-fits : (sequence : ℕ) (s : Sender) → HeldFits s → HeldFits (acknowledged sequence s)
+pub acknowledged-fits : (sequence : ℕ) (s : Sender) → HeldFits s → HeldFits (acknowledged s sequence)
 acknowledged-fits sequence s fits = by-held (s .held) refl
   where
     by-sequence : (frame : Held) → length (frame .payload) ≤ payloadMax → (t : Bool) → HeldFits (record { next = s .next; held = cond t none (some frame) })

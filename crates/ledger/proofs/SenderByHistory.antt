@@ -54,7 +54,7 @@ module _ (names : List (List ℕ)) (w : WatchList) (listed : namesIn w ≡ some 
   abbrev all : Agreeing names cs left end
   all = agreeing listed begins chain
 
-  ledger-sender : after (start names) cs .sender ≡ senderIn (history cs left)
+  pub ledger-sender : after (start names) cs .sender ≡ senderIn (history cs left)
   ledger-sender = ap (λ (m : Ledger). m .sender) (after-by names cs left (all .all .gives)) ∙ history-sender (start names) (history cs left)
 
   -- THEOREM. The sender is what the history makes of it.
@@ -62,19 +62,19 @@ module _ (names : List (List ℕ)) (w : WatchList) (listed : namesIn w ≡ some 
   sender-by-history = all .all .agrees .sender-is ∙ ap asSender ledger-sender
 
   -- THEOREM. Whether the next send is refused, with which number, and what goes out, is what the rules say of the history's sender.
-  pub next-send : (payload output : List ℕ) (more : Left) (end₁ : Display) → Chain end (answers.send payload output ∷ []) (more ∷ []) end₁
+  pub send-by-history : (payload output : List ℕ) (more : Left) (end₁ : Display) → Chain end (answers.send payload output ∷ []) (more ∷ []) end₁
       → BySender end (sendStep (senderIn (history cs left)) payload (length output)) output more end₁
   unfolding step
-  next-send payload output more end₁ (sends s done) =
+  send-by-history payload output more end₁ (sends s done) =
       let gives = next-call all (sends s done) in
       rw (← ledger-sender)
       (record { answers = gives .gives; sender = gives .agrees .sender-is; link = rw (sent s .answers); board = rw (sent s .answers) })
 
   -- THEOREM. And so of the next timeout, with what it drops and reports.
-  pub next-timeout : (output : List ℕ) (more : Left) (end₁ : Display) → Chain end (answers.timeout output ∷ []) (more ∷ []) end₁
+  pub timeout-by-history : (output : List ℕ) (more : Left) (end₁ : Display) → Chain end (answers.timeout output ∷ []) (more ∷ []) end₁
       → BySender end (timeoutStep (senderIn (history cs left)) (length output)) output more end₁
   unfolding step
-  next-timeout output more end₁ (times-out t done) =
+  timeout-by-history output more end₁ (times-out t done) =
       let gives = next-call all (times-out t done) in
       rw (← ledger-sender)
       (record { answers = gives .gives; sender = gives .agrees .sender-is; link = rw (timed-out t .answers); board = rw (timed-out t .answers) })

@@ -2,7 +2,7 @@
 -- concerns the sender.
 use mathlib.Core.Path.{_≡_, refl, _∙_, subst⁻¹}
 use mathlib.Core.Bool.{Bool, true, false, cond}
-use mathlib.Core.List.{List, [], _∷_}
+use mathlib.Core.List.{List, _∷_}
 use mathlib.Core.Option.{Option, some, none}
 use Prim.Native.Nat.{ℕ, _≤_, _<_}
 use lib.ListN.{length}
@@ -22,21 +22,22 @@ use Rattle.ledger.specs.Calls as calls
 use Rattle.ledger.specs.Calls.{Effect, repeated, closed, effectOf, withRun, step}
 use Rattle.ledger.specs.Shown.{asAnswer, asSending, Left, took, ticked, outgoing, asLeft}
 use Rattle.ledger.specs.SentFrames as notice
-use Rattle.ledger.specs.SentFrames.{noticeOf, sentAgain, sequencesSent}
+use Rattle.ledger.specs.SentFrames.{noticeOf, repeatsSent, dropsReported, sequencesSent}
 use Rattle.ledger.proofs.LineLaws.{sender-followed}
 use Rattle.ledger.proofs.RoomLaws.{by-room}
 use Rattle.ledger.proofs.SenderLaws.{by-send, by-waiting, by-timeout}
 
 -- a call that tells nothing of a frame of ours
 pub record Quiet (left : Left) : Type 0 where
-  pub no-notice : (sequence : ℕ) → noticeOf sequence left ≡ notice.none
-  pub not-again : (more : List Left) → sentAgain (left ∷ more) ≡ sentAgain more
+  pub no-notice : (sequence : ℕ) → noticeOf sequence left ≡ notice.untold
+  pub not-again : (more : List Left) → repeatsSent (left ∷ more) ≡ repeatsSent more
+  pub not-reported : (more : List Left) → dropsReported (left ∷ more) ≡ dropsReported more
   pub not-sent : (more : List Left) → sequencesSent (left ∷ more) ≡ sequencesSent more
 
 -- by what a call left and the sender behind it
 pub record Cases (s : Sender) (P : Left → Sender → Type 0) : Type 0 where
   pub quiet : (left : Left) → Quiet left → P left s
-  pub hears : (n sequence : ℕ) (reply packet : List ℕ) → P (took n (Heard sequence) reply packet) (acknowledged sequence s)
+  pub hears : (n sequence : ℕ) (reply packet : List ℕ) → P (took n (Heard sequence) reply packet) (acknowledged s sequence)
   pub accepts : (payload output : List ℕ) → s .held ≡ none
       → P (outgoing (Sent (s .next) (length (ownFrame (s .next) payload))) output) (sends s payload .sender)
   pub repeats : (frame : Held) (output : List ℕ) → s .held ≡ some frame → frame .repeats < repeatsMax → length (ownFrame (frame .sequence) (frame .payload)) ≤ length output
@@ -47,22 +48,22 @@ pub record Cases (s : Sender) (P : Left → Sender → Type 0) : Type 0 where
       → P (outgoing (Dropped (frame .sequence)) output) (drops s frame .sender)
 
 tick-quiet : Quiet ticked
-unfolding sentAgain sequencesSent
-tick-quiet = record { no-notice = λ sequence. refl; not-again = λ more. refl; not-sent = λ more. refl }
+unfolding repeatsSent dropsReported sequencesSent
+tick-quiet = record { no-notice = λ sequence. refl; not-again = λ more. refl; not-reported = λ more. refl; not-sent = λ more. refl }
 
 refused-quiet : (n : ℕ) (output : List ℕ) → Quiet (outgoing (sender-says.Refused n) output)
-unfolding sentAgain sequencesSent
-refused-quiet n output = record { no-notice = λ sequence. refl; not-again = λ more. refl; not-sent = λ more. refl }
+unfolding repeatsSent dropsReported sequencesSent
+refused-quiet n output = record { no-notice = λ sequence. refl; not-again = λ more. refl; not-reported = λ more. refl; not-sent = λ more. refl }
 
 idle-quiet : (output : List ℕ) → Quiet (outgoing sender-says.Nothing output)
-unfolding sentAgain sequencesSent
-idle-quiet output = record { no-notice = λ sequence. refl; not-again = λ more. refl; not-sent = λ more. refl }
+unfolding repeatsSent dropsReported sequencesSent
+idle-quiet output = record { no-notice = λ sequence. refl; not-again = λ more. refl; not-reported = λ more. refl; not-sent = λ more. refl }
 
 module _ (names : List (List ℕ)) where
-  piece-quiet : (n : ℕ) (answer : answers.Answer) (reply packet : List ℕ) → ((sequence : ℕ) → notice.noticeOfPiece sequence (asAnswer names answer) ≡ notice.none)
+  piece-quiet : (n : ℕ) (answer : answers.Answer) (reply packet : List ℕ) → ((sequence : ℕ) → notice.noticeOfPiece sequence (asAnswer names answer) ≡ notice.untold)
       → Quiet (took n (asAnswer names answer) reply packet)
-  unfolding sentAgain sequencesSent
-  piece-quiet n answer reply packet unnoticed = record { no-notice = unnoticed; not-again = λ more. refl; not-sent = λ more. refl }
+  unfolding repeatsSent dropsReported sequencesSent
+  piece-quiet n answer reply packet unnoticed = record { no-notice = unnoticed; not-again = λ more. refl; not-reported = λ more. refl; not-sent = λ more. refl }
 
   module _ (l : Ledger) (P : Left → Sender → Type 0) (cases : Cases (l .sender) P) where
     -- a frame that was closed, with what it puts into the buffers
@@ -72,7 +73,7 @@ module _ (names : List (List ℕ)) where
     frame-case : (n : ℕ) (reply packet : List ℕ) (m : Ledger) → m .sender ≡ l .sender → (f : Frame) → OfEffect n reply packet (closed m f)
     frame-case n reply packet m same (frames.refused number place) = subst⁻¹ (P _) same (cases .quiet _ (piece-quiet n (answers.refused number place) _ _ (λ sequence. refl)))
     frame-case n reply packet m same (frames.acknowledgement sequence) =
-        subst⁻¹ (λ (s : Sender). P (took n (Heard sequence) reply packet) (acknowledged sequence s)) same (cases .hears n sequence reply packet)
+        subst⁻¹ (λ (s : Sender). P (took n (Heard sequence) reply packet) (acknowledged s sequence)) same (cases .hears n sequence reply packet)
     frame-case n reply packet m same (frames.good sequence payload) =
         by-last (repeated (m .line .sequence) sequence) (sender-followed m (frames.good sequence payload) ∙ same)
       where

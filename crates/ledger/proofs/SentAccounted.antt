@@ -1,76 +1,150 @@
--- 02, C-13: a frame that was sent is at any time held, acknowledged or reported as dropped, never lost silently: while no acknowledgement of
--- its sequence is heard and no drop is reported, the sender holds it.
-use mathlib.Core.Path.{_≡_, refl, sym, ap, _∙_}
+-- 02, C-13: a held frame settles what the calls behind tell of it. It is sent again at most twice, and the same each time; and it is acknowledged,
+-- or dropped and reported, or still held.
+use mathlib.Core.Path.{_≡_, refl, sym, ap, ap₂, _∙_, subst⁻¹}
 use mathlib.Core.Bool.{Bool, true, false, cond}
-use mathlib.Core.List.{List, [], _∷_, map}
+use mathlib.Core.List.{List, [], _∷_}
 use mathlib.Core.Option.{Option, some, none}
-use Prim.Native.Nat.{ℕ, suc, _≤_}
+use Prim.Native.Nat.{ℕ, suc, _+_, _≤_}
 use native.Mathlib.Omega.{arith}
 use lib.Dec.{eqb}
+use lib.ListN.{length, replicate}
 use borrow.Author.Tests.{eq-eqb}
 use Rattle.slices.proofs.Impossible.{impossible}
-use Rattle.ledger.specs.Ledger.{Held, Sender, Ledger}
+use Rattle.slices.specs.Put.{putAt}
+use Rattle.slices.proofs.PutLaws.{put-first}
+use Rattle.sender.specs.declared.state.Answer.the-variants.{Repeated}
+use Rattle.display.specs.declared.Answer.the-variants.{Heard}
+use Rattle.ledger.specs.Ledger.{Held, Ledger}
 use Rattle.ledger.specs.Answers.{Call}
-use Rattle.ledger.specs.Sending.{heldBehind}
+use Rattle.ledger.specs.Sending.{ownFrame, heldBehind}
 use Rattle.ledger.specs.Calls.{step, given, after}
-use Rattle.ledger.specs.Shown.{Left, asLeft}
-use Rattle.ledger.specs.SentFrames as fate
-use Rattle.ledger.specs.SentFrames.{noticeOf, Fate, fateBehind, fateOf}
+use Rattle.ledger.specs.Shown.{Left, took, outgoing}
+use Rattle.ledger.specs.SentFrames as status
+use Rattle.ledger.specs.SentFrames.{Notice, Status, statusBehind, statusOf, repeatsIn, reportsIn, repeatsSent, dropsReported}
 use Rattle.ledger.proofs.SenderSteps.{step-case}
+use Rattle.ledger.proofs.NothingHeld.{rest, held-by, idle}
 
--- what each fate says: held, so often sent again, by the ledger too; acknowledged after at most two repeats; dropped after both
-abbrev pub Accounted : ℕ → List ℕ → Fate → Option Held → Type 0
-Accounted sequence payload (fate.held repeats) held =
+-- what each status says of what the ledger holds: the frame; or it was freed after at most two repeats; or it was dropped after two
+abbrev pub Accounted : ℕ → List ℕ → Status → Option Held → Type 0
+Accounted sequence payload (status.held repeats) held =
     (repeats ≤ 2) × (held ≡ some (record { sequence = sequence; payload = payload; repeats = repeats }))
-Accounted sequence payload (fate.acknowledged repeats) held = repeats ≤ 2
-Accounted sequence payload (fate.dropped repeats) held = repeats ≡ 2
+Accounted sequence payload (status.acknowledged repeats) held = repeats ≤ 2
+Accounted sequence payload (status.dropped repeats) held = repeats ≡ 2
 
-module _ (names : List (List ℕ)) (sequence : ℕ) (payload : List ℕ) where
-  abbrev rest : Ledger → List Call → List Left
-  rest l cs = map (asLeft names) (given l cs)
+-- with a frame held that was sent again so often already
+pub record Course (sequence : ℕ) (payload : List ℕ) (repeats : ℕ) (left : List Left) (held : Option Held) : Type 0 where
+  pub accounted : Accounted sequence payload (statusOf sequence repeats left) held
+  pub count : ℕ
+  pub counted : repeats + count ≡ repeatsIn (statusOf sequence repeats left)
+  pub again : repeatsSent left ≡ replicate count (ownFrame sequence payload)
+  pub reports : dropsReported left ≡ reportsIn sequence (statusOf sequence repeats left)
 
-  abbrev frameAfter : ℕ → Held
-  frameAfter repeats = record { sequence = sequence; payload = payload; repeats = repeats }
+module _ (names : List (List ℕ)) where
+  module _ (sequence : ℕ) (payload : List ℕ) where
+    abbrev frameAfter : ℕ → Held
+    frameAfter repeats = record { sequence = sequence; payload = payload; repeats = repeats }
 
-  abbrev Behind : Ledger → List Call → ℕ → Fate → Type 0
-  Behind l cs repeats f = Accounted sequence payload f (after l cs .sender .held)
+    abbrev own : List ℕ
+    own = ownFrame sequence payload
 
-  -- the frame that is held is the one that was sent
-  same-frame : (repeats : ℕ) (frame : Held) (held : Option Held) → held ≡ some (frameAfter repeats) → held ≡ some frame → frame ≡ frameAfter repeats
-  same-frame repeats frame held a b = cc
+    same-frame : (repeats : ℕ) (frame : Held) (held : Option Held) → held ≡ some (frameAfter repeats) → held ≡ some frame → frame ≡ frameAfter repeats
+    same-frame repeats frame held a b = cc
 
-  pub accounted : (cs : List Call) (l : Ledger) (repeats : ℕ) → repeats ≤ 2 → l .sender .held ≡ some (frameAfter repeats)
-      → Accounted sequence payload (fateOf sequence repeats (rest l cs)) (after l cs .sender .held)
-  unfolding given after fateOf
-  accounted [] l repeats few waits = (few, waits)
-  accounted (c ∷ cs) l repeats few waits =
-      step-case names l
-      (λ left s.
-      (m : Ledger) → m .sender ≡ s
-      → Accounted sequence payload (fateBehind (noticeOf sequence left) repeats (λ again. fateOf sequence again (rest m cs))) (after m cs .sender .held))
-      (record {
-        quiet = λ left q m same. rw (q .no-notice sequence) (accounted cs m repeats few (ap (λ (s : Sender). s .held) same ∙ waits));
-        hears = λ n other reply packet m same. by-sequence m (eqb other sequence) (ap (λ (s : Sender). s .held) same ∙ ap (heldBehind other) waits) (λ stays. accounted cs m repeats few stays);
-        accepts = λ sent output free m same. let never = sym free ∙ waits in impossible cc;
-        repeats =
-            λ frame output e young fits m same.
-            let is = same-frame repeats frame (l .sender .held) waits e in
-            let here : eqb (frame .sequence) sequence ≡ true = eq-eqb (frame .sequence) sequence (ap (λ (f : Held). f .sequence) is) in
-            let again : m .sender .held ≡ some (frameAfter (suc repeats)) =
-            ap (λ (s : Sender). s .held) same ∙ ap (λ (f : Held). some (record { sequence = f .sequence; payload = f .payload; repeats = suc (f .repeats) })) is in
-            let count = ap (λ (f : Held). f .repeats) is in
-            rw here (accounted cs m (suc repeats) (omega (arith, young, count)) again);
-        drops =
-            λ frame output e old m same.
-            let is = same-frame repeats frame (l .sender .held) waits e in
-            let here : eqb (frame .sequence) sequence ≡ true = eq-eqb (frame .sequence) sequence (ap (λ (f : Held). f .sequence) is) in
-            let count = ap (λ (f : Held). f .repeats) is in
-            rw here (let all : repeats ≡ 2 = omega (arith, old, few, count) in all);
-      })
-      c (step l c .ledger) refl
-    where
-      by-sequence : (m : Ledger) (t : Bool) → m .sender .held ≡ cond t none (some (frameAfter repeats))
-          → (m .sender .held ≡ some (frameAfter repeats) → Accounted sequence payload (fateOf sequence repeats (rest m cs)) (after m cs .sender .held))
-          → Accounted sequence payload (fateBehind (cond t fate.heard fate.none) repeats (λ again. fateOf sequence again (rest m cs))) (after m cs .sender .held)
-      by-sequence m true e stays = few
-      by-sequence m false e stays = stays e
+    -- a call that tells nothing of the frame
+    unnoticed : (repeats : ℕ) (left : Left) (more : List Left) (held : Option Held) → statusOf sequence repeats (left ∷ more) ≡ statusOf sequence repeats more
+        → repeatsSent (left ∷ more) ≡ repeatsSent more → dropsReported (left ∷ more) ≡ dropsReported more → Course sequence payload repeats more held
+        → Course sequence payload repeats (left ∷ more) held
+    unnoticed repeats left more held same same-repeats same-reports c =
+        record {
+          accounted = subst⁻¹ (λ (st : Status). Accounted sequence payload st held) same (c .accounted);
+          count = c .count;
+          counted = c .counted ∙ ap repeatsIn (sym same);
+          again = same-repeats ∙ c .again;
+          reports = same-reports ∙ c .reports ∙ ap (reportsIn sequence) (sym same);
+        }
+
+    -- a call that settles what became of it
+    settled : (repeats : ℕ) (left : Left) (more : List Left) (held : Option Held) (st : Status) → statusOf sequence repeats (left ∷ more) ≡ st → repeatsIn st ≡ repeats
+        → Accounted sequence payload st held → repeatsSent (left ∷ more) ≡ [] → dropsReported (left ∷ more) ≡ reportsIn sequence st
+        → Course sequence payload repeats (left ∷ more) held
+    settled repeats left more held st is count a no-repeat reports =
+        record {
+          accounted = subst⁻¹ (λ (x : Status). Accounted sequence payload x held) is a;
+          count = 0;
+          counted = let none-more : repeats + 0 ≡ repeats = omega arith in none-more ∙ sym count ∙ ap repeatsIn (sym is);
+          again = no-repeat;
+          reports = reports ∙ ap (reportsIn sequence) (sym is);
+        }
+
+    its-own : (repeats : ℕ) (frame : Held) → frame ≡ frameAfter repeats → eqb (frame .sequence) sequence ≡ true
+    its-own repeats frame is = eq-eqb (frame .sequence) sequence (ap (λ (f : Held). f .sequence) is)
+
+    -- a repeat: the same frame once more
+    once-more : (repeats : ℕ) (frame : Held) (output : List ℕ) (more : List Left) (held : Option Held) → frame ≡ frameAfter repeats
+        → length (ownFrame (frame .sequence) (frame .payload)) ≤ length output → Course sequence payload (suc repeats) more held
+        → Course sequence payload repeats
+        (outgoing (Repeated (frame .sequence) (length (ownFrame (frame .sequence) (frame .payload)))) (putAt output 0 (ownFrame (frame .sequence) (frame .payload))) ∷ more) held
+    unfolding statusOf repeatsSent dropsReported
+    once-more repeats frame output more held is fits c =
+        let status-is = ap (λ (t : Bool). statusBehind (cond t status.sent-again status.untold) repeats (λ again. statusOf sequence again more)) (its-own repeats frame is) in
+        let own-is = ap (λ (f : Held). ownFrame (f .sequence) (f .payload)) is in
+        let one-more : repeats + suc (c .count) ≡ suc repeats + c .count = omega arith in
+        record {
+          accounted = subst⁻¹ (λ (st : Status). Accounted sequence payload st held) status-is (c .accounted);
+          count = suc (c .count);
+          counted = one-more ∙ c .counted ∙ ap repeatsIn (sym status-is);
+          again = ap₂ (λ (f : List ℕ) (fs : List (List ℕ)). f ∷ fs) (put-first output (ownFrame (frame .sequence) (frame .payload)) fits ∙ own-is) (c .again);
+          reports = c .reports ∙ ap (reportsIn sequence) (sym status-is);
+        }
+
+    -- an acknowledgement, by its sequence
+    heard-course : (repeats n other : ℕ) (reply packet : List ℕ) (m : Ledger) (cs : List Call) → repeats ≤ 2 → (t : Bool) → eqb other sequence ≡ t
+        → m .sender .held ≡ cond t none (some (frameAfter repeats))
+        → (m .sender .held ≡ some (frameAfter repeats) → Course sequence payload repeats (rest names m cs) (after m cs .sender .held))
+        → Course sequence payload repeats (took n (Heard other) reply packet ∷ rest names m cs) (after m cs .sender .held)
+    unfolding statusOf repeatsSent dropsReported
+    heard-course repeats n other reply packet m cs few true e free stays =
+        let quiet = idle names cs m free in
+        settled repeats _ (rest names m cs) _ (status.acknowledged repeats)
+        (ap (λ (t : Bool). statusBehind (cond t status.heard status.untold) repeats (λ again. statusOf sequence again (rest names m cs))) e)
+        refl few (quiet .no-repeat) (quiet .no-report)
+    heard-course repeats n other reply packet m cs few false e held stays =
+        unnoticed repeats _ (rest names m cs) _
+        (ap (λ (t : Bool). statusBehind (cond t status.heard status.untold) repeats (λ again. statusOf sequence again (rest names m cs))) e)
+        refl refl (stays held)
+
+    pub course : (cs : List Call) (l : Ledger) (repeats : ℕ) → repeats ≤ 2 → l .sender .held ≡ some (frameAfter repeats)
+        → Course sequence payload repeats (rest names l cs) (after l cs .sender .held)
+    unfolding given after statusOf repeatsSent dropsReported
+    course [] l repeats few waits = record { accounted = (few, waits); count = 0; counted = omega arith; again = refl; reports = refl }
+    course (c ∷ cs) l repeats few waits =
+        step-case names l (λ left s. (m : Ledger) → m .sender ≡ s → Course sequence payload repeats (left ∷ rest names m cs) (after m cs .sender .held))
+        (record {
+          quiet =
+              λ left q m same.
+              unnoticed repeats left (rest names m cs) _
+              (ap (λ (x : Notice). statusBehind x repeats (λ again. statusOf sequence again (rest names m cs))) (q .no-notice sequence))
+              (q .not-again (rest names m cs)) (q .not-reported (rest names m cs)) (course cs m repeats few (held-by same ∙ waits));
+          hears =
+              λ n other reply packet m same.
+              heard-course repeats n other reply packet m cs few (eqb other sequence) refl (held-by same ∙ ap (heldBehind other) waits)
+              (λ stays. course cs m repeats few stays);
+          accepts = λ sent output free m same. let never = sym free ∙ waits in impossible cc;
+          repeats =
+              λ frame output e young fits m same.
+              let is = same-frame repeats frame (l .sender .held) waits e in
+              let count = ap (λ (f : Held). f .repeats) is in
+              once-more repeats frame output (rest names m cs) _ is fits
+              (course cs m (suc repeats) (omega (arith, young, count))
+              (held-by same ∙ ap (λ (f : Held). some (record { sequence = f .sequence; payload = f .payload; repeats = suc (f .repeats) })) is));
+          drops =
+              λ frame output e old m same.
+              let is = same-frame repeats frame (l .sender .held) waits e in
+              let count = ap (λ (f : Held). f .repeats) is in
+              let quiet = idle names cs m (held-by same) in
+              settled repeats _ (rest names m cs) _ (status.dropped repeats)
+              (ap (λ (t : Bool). statusBehind (cond t status.reported status.untold) repeats (λ again. statusOf sequence again (rest names m cs))) (its-own repeats frame is))
+              refl (let all : repeats ≡ 2 = omega (arith, old, few, count) in all) (quiet .no-repeat)
+              (ap₂ (λ (n : ℕ) (ns : List ℕ). n ∷ ns) (ap (λ (f : Held). f .sequence) is) (quiet .no-report));
+        })
+        c (step l c .ledger) refl

@@ -13,7 +13,7 @@ use Rattle.sender.specs.declared.state.Sender.{Sender}
 use Rattle.display.specs.Display.{tickDisplay}
 use Rattle.display.specs.Sending.{SendsAs}
 use Rattle.display.specs.declared.Display.{Display}
-use Rattle.display.specs.declared.Sent.{Sent}
+use Rattle.display.specs.declared.sending.Outgoing.{Outgoing}
 use Rattle.ledger.specs.Ledger.{Ledger}
 use Rattle.ledger.specs.Calls as calls
 use Rattle.ledger.specs.Answers.{tick, send, timeout}
@@ -64,7 +64,7 @@ tick-agrees {count} names l d a =
 
 -- a step of the sender, which leaves link and board as they were
 sent-agrees : {count : ℕ} (names : List (List ℕ)) (l : Ledger) (d : Display) → Agrees count names l d → (step : SenderStep) → HeldFits (step .sender)
-    → (output : List ℕ) (result : Sent) (output₁ : List ℕ) → SendsAs d (asGiven step) output result output₁
+    → (output : List ℕ) (result : Outgoing) (output₁ : List ℕ) → SendsAs d (asGiven step) output result output₁
     → Gives count names (senderStep l step output) (outgoing (result .answer) output₁) (result .display)
 sent-agrees names l d a step fits output result output₁ does =
     rw (does .answers, does .sends)
@@ -82,7 +82,7 @@ sent-agrees names l d a step fits output result output₁ does =
           };
     })
 
-pub send-agrees : {count : ℕ} (names : List (List ℕ)) (l : Ledger) (d : Display) → Agrees count names l d → (payload output : List ℕ) (result : Sent) (output₁ : List ℕ)
+pub send-agrees : {count : ℕ} (names : List (List ℕ)) (l : Ledger) (d : Display) → Agrees count names l d → (payload output : List ℕ) (result : Outgoing) (output₁ : List ℕ)
     → SendsAs d (sendOf (d .sender) payload (length output)) output result output₁
     → Gives count names (step l (send payload output)) (outgoing (result .answer) output₁) (result .display)
 unfolding step
@@ -91,7 +91,7 @@ send-agrees names l d a payload output result output₁ does =
     sent-agrees names l d a (sendStep (l .sender) payload (length output)) (send-fits (l .sender) payload (length output) (a .held-fits)) output result output₁
     (rw given at does)
 
-pub timeout-agrees : {count : ℕ} (names : List (List ℕ)) (l : Ledger) (d : Display) → Agrees count names l d → (output : List ℕ) (result : Sent) (output₁ : List ℕ)
+pub timeout-agrees : {count : ℕ} (names : List (List ℕ)) (l : Ledger) (d : Display) → Agrees count names l d → (output : List ℕ) (result : Outgoing) (output₁ : List ℕ)
     → SendsAs d (timeoutOf (d .sender) (length output)) output result output₁
     → Gives count names (step l (timeout output)) (outgoing (result .answer) output₁) (result .display)
 unfolding step

@@ -22,7 +22,7 @@ use Rattle.ledger.specs.Streams.{Part, cut, pause, send, timeout, offers
 use Rattle.ledger.proofs.Chain.{Begins, Receives, received}
 use Rattle.ledger.proofs.EveryListRuns.{received-by, sent-by, timed-out-by}
 use Rattle.ledger.proofs.SameHistory.{Alike, same-history}
-use Rattle.ledger.proofs.FedHistory.{Feeds, fed, all-taken, offered, paused, asked, waited, fed-chain, acceptedFrom, fed-history}
+use Rattle.ledger.proofs.FedHistory.{Feeds, fed, all-taken, offered, paused, offered-send, offered-timeout, fed-chain, acceptedFrom, fed-history}
 
 -- THEOREM. Whatever the display, a call that is lent a reply buffer of at least 9 bytes and a packet buffer of at least 383 takes at most its
 -- piece, and some of a piece that has any byte.
@@ -31,8 +31,9 @@ pub room-takes : {d : Display} {bytes reply packet reply₁ packet₁ : List ℕ
 room-takes {d = d} {bytes = bytes} {reply = reply} {packet = packet} {reply₁ = reply₁} {packet₁ = packet₁} {result = result} r a b =
     takes-some d bytes (length reply) (length packet) reply packet reply₁ packet₁ result a b (received r)
 
--- THEOREM. Wherever a stream is cut, the outcome is the same: from fresh starts with the same names, two ways to cut the same stream are alike
--- in answers, replies, packets, counts and board, and in all that comes behind.
+-- THEOREM. Wherever a stream is cut, the outcome is the same: from fresh starts with the same names, two ways to cut the same stream, with
+-- minutes, sends and timeouts between its bytes, are alike in answers, replies, frames of our own, packets, counts, board and sender, and in
+-- all that comes behind.
 pub cuts-do-not-matter : (names : List (List ℕ)) (w w₁ : WatchList) → namesIn w ≡ some names → namesIn w₁ ≡ some names
     → (d d₁ : Display) → Begins w d → Begins w₁ d₁ → (parts parts₁ : List Part) → offersIn parts ≡ offersIn parts₁
     → (cs cs₁ : List Call) (left left₁ : List Left) (end end₁ : Display) → Feeds d parts cs left end → Feeds d₁ parts₁ cs₁ left₁ end₁
@@ -80,7 +81,7 @@ every-cut (pause ∷ parts) d =
     record { cs = tick ∷ rest .cs; left = ticked ∷ rest .left; end = rest .end; feeds = paused refl (rest .feeds) }
 every-cut (send payload output ∷ parts) d =
     let rest = every-cut parts (withSender d (sendOf (d .sender) payload (length output) .outcome .sender)) in
-    record { cs = _ ∷ rest .cs; left = _ ∷ rest .left; end = rest .end; feeds = asked (sent-by d payload output) (rest .feeds) }
+    record { cs = _ ∷ rest .cs; left = _ ∷ rest .left; end = rest .end; feeds = offered-send (sent-by d payload output) (rest .feeds) }
 every-cut (timeout output ∷ parts) d =
     let rest = every-cut parts (withSender d (timeoutOf (d .sender) (length output) .outcome .sender)) in
-    record { cs = _ ∷ rest .cs; left = _ ∷ rest .left; end = rest .end; feeds = waited (timed-out-by d output) (rest .feeds) }
+    record { cs = _ ∷ rest .cs; left = _ ∷ rest .left; end = rest .end; feeds = offered-timeout (timed-out-by d output) (rest .feeds) }

@@ -30,18 +30,13 @@ withCounts l counts = withLine l (record { run = l .line .run; sequence = l .lin
 -- refused: its count plus 1. 02, C-16: the answer has the place.
 abbrev pub refusedFrame : Ledger → ℕ → ℕ → Effect
 refusedFrame l n place =
-    record {
-      ledger = withCounts l (plusRefused n (l .line .counts));
-      answer = refused n place;
-      reply = [];
-      packet = [];
-    }
+    record { ledger = withCounts l (plusRefused n (l .line .counts)); answer = refused n place; reply = []; packet = [] }
 
 -- type 02: heard plus 1. 02, C-13: one of its sequence frees the frame that our sender holds.
 abbrev pub heardFrame : Ledger → ℕ → Effect
 heardFrame l sequence =
     record {
-      ledger = withSender (withCounts l (plusHeard (l .line .counts))) (acknowledged sequence (l .sender));
+      ledger = withSender (withCounts l (plusHeard (l .line .counts))) (acknowledged (l .sender) sequence);
       answer = heard sequence;
       reply = [];
       packet = [];
@@ -131,7 +126,7 @@ packetRoom = 383
 abbrev pub shortStep : Ledger → List ℕ → List ℕ → Step
 shortStep l reply packet = record { given = took 0 (refused shortOutput noPlace) reply packet; ledger = l }
 
--- 02, C-13: a send and a timeout concern the sender alone; what goes out stands at the start of the output
+-- 02, C-13: a send or a timeout; what goes out stands at the start of the output
 abbrev pub senderStep : Ledger → SenderStep → List ℕ → Step
 senderStep l s output = record { given = outgoing (s .answer) (putAt output 0 (s .output)); ledger = withSender l (s .sender) }
 

@@ -1,5 +1,5 @@
 -- 01, The receiver: "each flag after the first ends one frame and begins the next". The frames that a history closed, in order, with the
--- minutes between them, and the sequences of the data frames.
+-- minutes, sends and timeouts between them, and the sequences of the data frames.
 use Prim.Native.Nat.{ℕ}
 use mathlib.Core.Path.{_≡_}
 use mathlib.Core.List.{List, [], _∷_, _++_}

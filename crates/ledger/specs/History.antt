@@ -89,7 +89,7 @@ handedLeft (took n answer reply packet) = handedAs answer reply packet
 handedLeft ticked = []
 handedLeft (outgoing answer output) = sentAs answer output
 
--- all replies and packets of a list of calls, in order
+-- all replies, frames of our own and packets of a list of calls, in order
 unfoldable pub allHanded : List Left → List Handed
 allHanded [] = []
 allHanded (left ∷ more) = handedLeft left ++ allHanded more
@@ -119,7 +119,7 @@ packetsHanded handed = among packetIn handed
 -- the answers that do not depend on where a piece was cut: all but "nothing", and refusal 7, after which nothing was taken
 abbrev pub answersAs : Answer → List Answer
 answersAs Nothing = []
-answersAs (Refused n place) = cond (eqb n shortOutput) [] (Refused n place ∷ [])
+answersAs (Refused n place) = cond (refusedPiece (Refused n place)) [] (Refused n place ∷ [])
 answersAs (Heard sequence) = Heard sequence ∷ []
 answersAs (Again replied) = Again replied ∷ []
 answersAs (New replied size verdict) = New replied size verdict ∷ []

@@ -8,6 +8,7 @@ pub mod History
 pub mod Streams
 pub mod ClosedFrames
 pub mod BoardEvents
+pub mod RefusedEvents
 pub mod OwnFrames
 pub mod SentFrames
 pub mod LastAccepted

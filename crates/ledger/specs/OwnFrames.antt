@@ -13,7 +13,7 @@ use Rattle.ledger.specs.ClosedFrames.{Mark, passed, frame, sent, timed-o
 -- of the frames from the module only an acknowledgement concerns the sender
 abbrev pub senderBehindFrame : Sender → Frame → Sender
 senderBehindFrame s (refused n place) = s
-senderBehindFrame s (acknowledgement sequence) = acknowledged sequence s
+senderBehindFrame s (acknowledgement sequence) = acknowledged s sequence
 senderBehindFrame s (good sequence payload) = s
 
 abbrev pub senderBehind : Sender → Mark → Sender

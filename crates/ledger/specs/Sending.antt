@@ -84,5 +84,5 @@ abbrev pub heldBehind : ℕ → Option Held → Option Held
 heldBehind sequence none = none
 heldBehind sequence (some frame) = cond (eqb sequence (frame .sequence)) none (some frame)
 
-abbrev pub acknowledged : ℕ → Sender → Sender
-acknowledged sequence s = record { next = s .next; held = heldBehind sequence (s .held) }
+abbrev pub acknowledged : Sender → ℕ → Sender
+acknowledged s sequence = record { next = s .next; held = heldBehind sequence (s .held) }

@@ -14,61 +14,85 @@ use Rattle.ledger.specs.Shown.{Left, took, ticked, outgoing}
 
 -- what a call tells of the frame of a sequence
 pub data Notice : Type 0 where
-  none : Notice
+  untold : Notice
   sent-again : Notice
   heard : Notice
   reported : Notice
 
 abbrev pub noticeOfPiece : ℕ → Answer → Notice
-noticeOfPiece sequence Nothing = none
-noticeOfPiece sequence (Refused n place) = none
-noticeOfPiece sequence (Heard other) = cond (eqb other sequence) heard none
-noticeOfPiece sequence (Again replied) = none
-noticeOfPiece sequence (New replied size verdict) = none
+noticeOfPiece sequence Nothing = untold
+noticeOfPiece sequence (Refused n place) = untold
+noticeOfPiece sequence (Heard other) = cond (eqb other sequence) heard untold
+noticeOfPiece sequence (Again replied) = untold
+noticeOfPiece sequence (New replied size verdict) = untold
 
 abbrev pub noticeOfSender : ℕ → sender-answer.Answer → Notice
-noticeOfSender sequence sender-says.Nothing = none
-noticeOfSender sequence (sender-says.Refused n) = none
-noticeOfSender sequence (Sent other length) = none
-noticeOfSender sequence (Repeated other length) = cond (eqb other sequence) sent-again none
-noticeOfSender sequence (Dropped other) = cond (eqb other sequence) reported none
+noticeOfSender sequence sender-says.Nothing = untold
+noticeOfSender sequence (sender-says.Refused n) = untold
+noticeOfSender sequence (Sent other length) = untold
+noticeOfSender sequence (Repeated other length) = cond (eqb other sequence) sent-again untold
+noticeOfSender sequence (Dropped other) = cond (eqb other sequence) reported untold
 
 abbrev pub noticeOf : ℕ → Left → Notice
 noticeOf sequence (took n answer reply packet) = noticeOfPiece sequence answer
-noticeOf sequence ticked = none
+noticeOf sequence ticked = untold
 noticeOf sequence (outgoing answer output) = noticeOfSender sequence answer
 
 -- what became of it, with how often it was sent again: it is held, it was acknowledged, or it was reported as dropped
-pub data Fate : Type 0 where
-  held : ℕ → Fate
-  acknowledged : ℕ → Fate
-  dropped : ℕ → Fate
+pub data Status : Type 0 where
+  held : ℕ → Status
+  acknowledged : ℕ → Status
+  dropped : ℕ → Status
 
-abbrev pub fateBehind : Notice → ℕ → (ℕ → Fate) → Fate
-fateBehind none repeats rest = rest repeats
-fateBehind sent-again repeats rest = rest (suc repeats)
-fateBehind heard repeats rest = acknowledged repeats
-fateBehind reported repeats rest = dropped repeats
+abbrev pub statusBehind : Notice → ℕ → (ℕ → Status) → Status
+statusBehind untold repeats rest = rest repeats
+statusBehind sent-again repeats rest = rest (suc repeats)
+statusBehind heard repeats rest = acknowledged repeats
+statusBehind reported repeats rest = dropped repeats
 
-unfoldable pub fateOf : ℕ → ℕ → List Left → Fate
-fateOf sequence repeats [] = held repeats
-fateOf sequence repeats (left ∷ more) = fateBehind (noticeOf sequence left) repeats (λ again. fateOf sequence again more)
+unfoldable pub statusOf : ℕ → ℕ → List Left → Status
+statusOf sequence repeats [] = held repeats
+statusOf sequence repeats (left ∷ more) = statusBehind (noticeOf sequence left) repeats (λ again. statusOf sequence again more)
 
--- the frames that were sent again, up to the next frame that is sent for the first time
-abbrev pub againBehind : sender-answer.Answer → List ℕ → List (List ℕ) → List (List ℕ)
-againBehind sender-says.Nothing output rest = rest
-againBehind (sender-says.Refused n) output rest = rest
-againBehind (Sent sequence length) output rest = []
-againBehind (Repeated sequence length) output rest = take length output ∷ rest
-againBehind (Dropped sequence) output rest = rest
+abbrev pub repeatsIn : Status → ℕ
+repeatsIn (held repeats) = repeats
+repeatsIn (acknowledged repeats) = repeats
+repeatsIn (dropped repeats) = repeats
 
-unfoldable pub sentAgain : List Left → List (List ℕ)
-sentAgain [] = []
-sentAgain (took n answer reply packet ∷ more) = sentAgain more
-sentAgain (ticked ∷ more) = sentAgain more
-sentAgain (outgoing answer output ∷ more) = againBehind answer output (sentAgain more)
+-- a report of a drop has the sequence
+abbrev pub reportsIn : ℕ → Status → List ℕ
+reportsIn sequence (held repeats) = []
+reportsIn sequence (acknowledged repeats) = []
+reportsIn sequence (dropped repeats) = sequence ∷ []
 
--- the sequences of the frames that were sent, in order
+-- up to the next frame that is sent for the first time: the frames that were sent again, and the reports of drops
+abbrev pub repeatBehind : sender-answer.Answer → List ℕ → List (List ℕ) → List (List ℕ)
+repeatBehind sender-says.Nothing output rest = rest
+repeatBehind (sender-says.Refused n) output rest = rest
+repeatBehind (Sent sequence length) output rest = []
+repeatBehind (Repeated sequence length) output rest = take length output ∷ rest
+repeatBehind (Dropped sequence) output rest = rest
+
+unfoldable pub repeatsSent : List Left → List (List ℕ)
+repeatsSent [] = []
+repeatsSent (took n answer reply packet ∷ more) = repeatsSent more
+repeatsSent (ticked ∷ more) = repeatsSent more
+repeatsSent (outgoing answer output ∷ more) = repeatBehind answer output (repeatsSent more)
+
+abbrev pub reportBehind : sender-answer.Answer → List ℕ → List ℕ
+reportBehind sender-says.Nothing rest = rest
+reportBehind (sender-says.Refused n) rest = rest
+reportBehind (Sent sequence length) rest = []
+reportBehind (Repeated sequence length) rest = rest
+reportBehind (Dropped sequence) rest = sequence ∷ rest
+
+unfoldable pub dropsReported : List Left → List ℕ
+dropsReported [] = []
+dropsReported (took n answer reply packet ∷ more) = dropsReported more
+dropsReported (ticked ∷ more) = dropsReported more
+dropsReported (outgoing answer output ∷ more) = reportBehind answer (dropsReported more)
+
+-- the sequences of the frames that were sent for the first time, in order
 abbrev pub sequenceTold : sender-answer.Answer → List ℕ
 sequenceTold sender-says.Nothing = []
 sequenceTold (sender-says.Refused n) = []

@@ -78,7 +78,7 @@ asAnswer names (answers.again sequence) = display-answer.the-variants.Again (len
 asAnswer names (answers.new sequence payload verdict) =
     display-answer.the-variants.New (length (answerTo sequence)) (length payload) (asReading names verdict)
 
--- of a frame that goes out its length is told, of one that was dropped its sequence
+-- of a frame that goes out sequence and length are told, of one that was dropped its sequence
 abbrev pub asSending : answers.Sending → sender-answer.Answer
 asSending answers.idle = sender-answer.the-variants.Nothing
 asSending (answers.refused n) = sender-answer.the-variants.Refused n

@@ -12,11 +12,11 @@ use Rattle.sender.specs.declared.state.Payload.{Payload}
 use Rattle.sender.specs.declared.state.Sender.{Sender}
 
 -- first sequence 0, then 1 to 255, then 1 again
-abbrev pub lastSequence : ℕ
-lastSequence = 255
+abbrev pub greatestSequence : ℕ
+greatestSequence = 255
 
 abbrev pub nextSequence : ℕ → ℕ
-nextSequence sequence = cond (eqb sequence lastSequence) 1 (suc sequence)
+nextSequence sequence = cond (eqb sequence greatestSequence) 1 (suc sequence)
 
 -- the payload of the held frame; where none is held it is empty, and its room holds zeros
 unfoldable pub payloadOf : List ℕ → Payload

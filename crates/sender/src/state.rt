@@ -4,9 +4,9 @@ ghost use mathlib.Core.Path.{_≡_};
 ghost use Rattle.sender.specs.State.{nextSequence, payloadOf, noPayload, freshSender, holding, freed};
 
 // The greatest sequence; the one behind it is 1, since 0 is the first alone.
-const LAST_SEQUENCE: u8 = 255;
+const GREATEST_SEQUENCE: u8 = 255;
 
-// The first bytes of a frame's payload, `length` of them, and zeros.
+// A frame's payload: the first `length` of the bytes. The others are zeros.
 pub struct Payload {
     pub length: usize,
     pub bytes: [u8; PAYLOAD_MAX],
@@ -64,7 +64,7 @@ fn no_payload() -> Payload
 fn next_sequence(sequence: u8) -> u8
     ensures { λ r. ⌜ r ≡ nextSequence sequence ⌝ }
 {
-    if sequence == LAST_SEQUENCE {
+    if sequence == GREATEST_SEQUENCE {
         return 1;
     }
     sequence + 1

@@ -1,8 +1,8 @@
--- `display::timeout` meets its contract: a timeout is the sender's, and link and board are kept.
+-- `display::sending::timeout` meets its contract: a timeout is the sender's, and link and board are kept.
 use Rattle.display.proofs.DisplayLaws.{sent-on}
 use borrow.Author.Needs.{needs}
-use Rattle.display.proofs.timeout.Statement.{statement}
-use Rattle.display.proofs.timeout.Tie as tie
+use Rattle.display.proofs.sending.timeout.Statement.{statement}
+use Rattle.display.proofs.sending.timeout.Tie as tie
 
 timeout-requires : tie.Need-timeout-requires
 timeout-requires c κs = search needs

@@ -1,8 +1,8 @@
--- `display::send` meets its contract: a send is the sender's, and link and board are kept.
+-- `display::sending::send` meets its contract: a send is the sender's, and link and board are kept.
 use Rattle.display.proofs.DisplayLaws.{sent-on}
 use borrow.Author.Needs.{needs}
-use Rattle.display.proofs.send.Statement.{statement}
-use Rattle.display.proofs.send.Tie as tie
+use Rattle.display.proofs.sending.send.Statement.{statement}
+use Rattle.display.proofs.sending.send.Tie as tie
 
 send-requires : tie.Need-send-requires
 send-requires c κs = search needs

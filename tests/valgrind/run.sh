@@ -33,7 +33,7 @@ tests/example/run.sh "$(checked display "$folder/display")" examples/captures/li
 "${check[@]}" "$folder/differential" 1
 # stored SUBJECT FILE: the lines of that subject, which the line behind it ends.
 stored() { awk -v subject="= $1" '/^= /{on=($0==subject)} on' "crates/run_cases/$2"; }
-for subject in ash session cutter; do
+for subject in ash session cutter display; do
     stored "$subject" stdin | "${check[@]}" "$cases" | diff -u <(stored "$subject" stdout) -
     echo "$subject: the stored cases give their stored answers"
 done

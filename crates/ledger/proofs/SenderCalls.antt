@@ -1,5 +1,5 @@
--- 02, C-13: what a piece does to the sender, and what a report of a drop says. An acknowledgement that was heard frees the held frame of its sequence, at once; any other, and
--- every other answer, changes nothing in the sender.
+-- 02, C-13: what a piece does to the sender, and what a report of a drop says. An acknowledgement that was heard frees the held frame of its
+-- sequence, at once; any other, and every other answer, changes nothing in the sender.
 use mathlib.Core.Path.{_≡_, refl, sym, ap, _∙_}
 use mathlib.Core.Bool.{Bool, true, false, cond}
 use mathlib.Core.List.{List}

@@ -1,3 +1,4 @@
+-- `sender::state::free` meets its contract: the payload is the empty one.
 use borrow.Author.Needs.{needs}
 use Rattle.sender.proofs.state.free.Statement.{statement}
 use Rattle.sender.proofs.state.free.Tie as tie

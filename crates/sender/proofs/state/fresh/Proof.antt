@@ -1,3 +1,4 @@
+-- `sender::state::fresh` meets its contract: each field is the one of the definition.
 use Rattle.sender.specs.State.{freshSender}
 use borrow.Author.Needs.{needs}
 use Rattle.sender.proofs.state.fresh.Statement.{statement}

@@ -1,3 +1,4 @@
+-- `sender::state::hold` meets its contract: the next sequence and the payload are those of the definition.
 use borrow.Author.Needs.{needs}
 use Rattle.sender.proofs.state.hold.Statement.{statement}
 use Rattle.sender.proofs.state.hold.Tie as tie

@@ -1,3 +1,4 @@
+-- `sender::state::payload_of` meets its contract: the array holds what was put.
 use Rattle.sender.specs.State.{payloadOf}
 use borrow.Author.Needs.{needs}
 use Rattle.sender.proofs.state.payload_of.Statement.{statement}

@@ -1,6 +1,6 @@
 -- 02, C-13, in the owner's words: a frame that was sent is sent again at most twice, and is at any time held, acknowledged or reported as
 -- dropped, never lost silently. The ledger holds the frame from its send on, and the sender is the ledger's.
-use mathlib.Core.Path.{_≡_, refl, ap, _∙_}
+use mathlib.Core.Path.{_≡_, ap, _∙_}
 use mathlib.Core.List.{List, [], _∷_, map}
 use mathlib.Core.Option.{some}
 use Prim.Native.Nat.{ℕ, _≤_}
@@ -10,7 +10,6 @@ use Rattle.slices.proofs.Impossible.{impossible}
 use Rattle.slices.specs.Put.{putAt}
 use Rattle.slices.proofs.PutLaws.{put-first}
 use Rattle.frame.specs.Content.{payloadMax}
-use Rattle.sender.specs.State.{kept}
 use Rattle.sender.specs.declared.state.Answer.the-variants.{Sent}
 use Rattle.sender.specs.declared.state.Held.the-variants as sender-held
 use Rattle.sender.specs.declared.state.Sender as sender
@@ -20,21 +19,13 @@ use Rattle.ledger.specs.Answers as answers
 use Rattle.ledger.specs.Answers.{WatchList, namesIn, Call}
 use Rattle.ledger.specs.Sending.{SenderStep, ownFrame, sendStep}
 use Rattle.ledger.specs.Calls.{step, given, after}
-use Rattle.ledger.specs.Shown.{asSender, asSending, Left, outgoing, asLeft}
+use Rattle.ledger.specs.Shown.{asSending, Left, outgoing, asLeft}
 use Rattle.ledger.specs.SentFrames as status
-use Rattle.ledger.specs.SentFrames.{Status, statusOf, repeatsIn, reportsIn, repeatsSent, dropsReported}
+use Rattle.ledger.specs.SentFrames.{statusOf, repeatsIn, reportsIn, repeatsSent, dropsReported}
 use Rattle.ledger.proofs.Chain.{Begins, Chain}
 use Rattle.ledger.proofs.EveryList.{chain-agrees, agreeing, next-call}
 use Rattle.ledger.proofs.SenderLaws.{by-send}
-use Rattle.ledger.proofs.SenderAgreement.{kept-whole}
-use Rattle.ledger.proofs.SentAccounted.{Accounted, course}
-
--- what each status says of the sender: it holds the frame, so often sent again; or the frame was acknowledged after at most two repeats; or
--- it was dropped after two
-abbrev pub AccountedFor : ℕ → List ℕ → Status → sender.Sender → Type 0
-AccountedFor sequence payload (status.held repeats) s = (repeats ≤ 2) × ((s .held ≡ sender-held.Frame sequence repeats) × (kept (s .payload) ≡ payload))
-AccountedFor sequence payload (status.acknowledged repeats) s = repeats ≤ 2
-AccountedFor sequence payload (status.dropped repeats) s = repeats ≡ 2
+use Rattle.ledger.proofs.SentAccounted.{AccountedFor, course}
 
 -- a frame that was sent, and all that the calls behind it left
 pub record NeverLost (sequence : ℕ) (payload frame : List ℕ) (since : List Left) (end : Display) : Type 0 where
@@ -68,12 +59,6 @@ send-accepted l payload output sequence size output₁ =
     let put : output₁ ≡ putAt output 0 own = cc in
     record { number = number; short = short; holds = rw number; frame-is = rw (number, long, put) (put-first output own fits) })
 
-for-sender : (sequence : ℕ) (payload : List ℕ) → length payload ≤ payloadMax → (f : Status) (l : Ledger) (s : sender.Sender) → s ≡ asSender (l .sender)
-    → Accounted sequence payload f (l .sender .held) → AccountedFor sequence payload f s
-for-sender sequence payload short (status.held repeats) l s is (few, waits) = (few, rw (is, waits) (refl, kept-whole payload short))
-for-sender sequence payload short (status.acknowledged repeats) l s is a = a
-for-sender sequence payload short (status.dropped repeats) l s is a = a
-
 -- THEOREM. After every list of calls: where a send is answered by "sent", and whatever calls come behind it, the frame is not lost.
 pub never-lost : (names : List (List ℕ)) (w : WatchList) → namesIn w ≡ some names → (d : Display) → Begins w d
     → (cs : List Call) (left : List Left) (before : Display) → Chain d cs left before
@@ -88,13 +73,11 @@ never-lost names w listed d begins cs left before chain payload output sequence 
     let accepts = send-accepted l payload output sequence size output₁ (one .gives) in
     let m = step l (answers.send payload output) .ledger in
     let rest = chain-agrees names (a .fit) m further (one .agrees) in
-    let one-frame = course names sequence payload more m 0 (omega arith) (accepts .holds) in
+    let one-frame = course names sequence payload (accepts .short) more m 0 (omega arith) (accepts .holds) in
     let all : one-frame .count ≡ repeatsIn (statusOf sequence 0 (map (asLeft names) (given m more))) = omega (arith, one-frame .counted) in
     record {
       frame-is = accepts .frame-is;
-      accounted-for =
-          for-sender sequence payload (accepts .short) (statusOf sequence 0 since) (after m more) (end .sender) (rest .agrees .sender-is)
-          (rw (rest .gives) (one-frame .accounted));
+      accounted-for = rw (rest .gives, rest .agrees .sender-is) (one-frame .accounted);
       again = rw (rest .gives, accepts .frame-is) (one-frame .again ∙ ap (λ (n : ℕ). replicate n (ownFrame sequence payload)) all);
       reports = rw (rest .gives) (one-frame .reports);
     }

@@ -12,35 +12,40 @@ use borrow.Author.Tests.{eq-eqb}
 use Rattle.slices.proofs.Impossible.{impossible}
 use Rattle.slices.specs.Put.{putAt}
 use Rattle.slices.proofs.PutLaws.{put-first}
+use Rattle.frame.specs.Content.{payloadMax}
+use Rattle.sender.specs.State.{kept}
 use Rattle.sender.specs.declared.state.Answer.the-variants.{Repeated}
+use Rattle.sender.specs.declared.state.Held.the-variants as sender-held
+use Rattle.sender.specs.declared.state.Sender as sender
 use Rattle.display.specs.declared.Answer.the-variants.{Heard}
 use Rattle.ledger.specs.Ledger.{Held, Ledger}
 use Rattle.ledger.specs.Answers.{Call}
 use Rattle.ledger.specs.Sending.{ownFrame, heldBehind}
 use Rattle.ledger.specs.Calls.{step, given, after}
-use Rattle.ledger.specs.Shown.{Left, took, outgoing}
+use Rattle.ledger.specs.Shown.{asHeld, asPayload, asSender, Left, took, outgoing}
 use Rattle.ledger.specs.SentFrames as status
 use Rattle.ledger.specs.SentFrames.{Notice, Status, statusBehind, statusOf, repeatsIn, reportsIn, repeatsSent, dropsReported}
+use Rattle.ledger.proofs.SenderAgreement.{kept-whole}
 use Rattle.ledger.proofs.SenderSteps.{step-case}
 use Rattle.ledger.proofs.NothingHeld.{rest, held-by, idle}
 
--- what each status says of what the ledger holds: the frame; or it was freed after at most two repeats; or it was dropped after two
-abbrev pub Accounted : ℕ → List ℕ → Status → Option Held → Type 0
-Accounted sequence payload (status.held repeats) held =
-    (repeats ≤ 2) × (held ≡ some (record { sequence = sequence; payload = payload; repeats = repeats }))
-Accounted sequence payload (status.acknowledged repeats) held = repeats ≤ 2
-Accounted sequence payload (status.dropped repeats) held = repeats ≡ 2
+-- what each status says of the sender: it holds the frame, so often sent again; or the frame was acknowledged after at most two repeats; or
+-- it was dropped after two
+abbrev pub AccountedFor : ℕ → List ℕ → Status → sender.Sender → Type 0
+AccountedFor sequence payload (status.held repeats) s = (repeats ≤ 2) × ((s .held ≡ sender-held.Frame sequence repeats) × (kept (s .payload) ≡ payload))
+AccountedFor sequence payload (status.acknowledged repeats) s = repeats ≤ 2
+AccountedFor sequence payload (status.dropped repeats) s = repeats ≡ 2
 
 -- with a frame held that was sent again so often already
-pub record Course (sequence : ℕ) (payload : List ℕ) (repeats : ℕ) (left : List Left) (held : Option Held) : Type 0 where
-  pub accounted : Accounted sequence payload (statusOf sequence repeats left) held
+pub record Course (sequence : ℕ) (payload : List ℕ) (repeats : ℕ) (left : List Left) (s : sender.Sender) : Type 0 where
+  pub accounted : AccountedFor sequence payload (statusOf sequence repeats left) s
   pub count : ℕ
   pub counted : repeats + count ≡ repeatsIn (statusOf sequence repeats left)
   pub again : repeatsSent left ≡ replicate count (ownFrame sequence payload)
   pub reports : dropsReported left ≡ reportsIn sequence (statusOf sequence repeats left)
 
 module _ (names : List (List ℕ)) where
-  module _ (sequence : ℕ) (payload : List ℕ) where
+  module _ (sequence : ℕ) (payload : List ℕ) (short : length payload ≤ payloadMax) where
     abbrev frameAfter : ℕ → Held
     frameAfter repeats = record { sequence = sequence; payload = payload; repeats = repeats }
 
@@ -51,12 +56,12 @@ module _ (names : List (List ℕ)) where
     same-frame repeats frame held a b = cc
 
     -- a call that tells nothing of the frame
-    unnoticed : (repeats : ℕ) (left : Left) (more : List Left) (held : Option Held) → statusOf sequence repeats (left ∷ more) ≡ statusOf sequence repeats more
-        → repeatsSent (left ∷ more) ≡ repeatsSent more → dropsReported (left ∷ more) ≡ dropsReported more → Course sequence payload repeats more held
-        → Course sequence payload repeats (left ∷ more) held
-    unnoticed repeats left more held same same-repeats same-reports c =
+    unnoticed : (repeats : ℕ) (left : Left) (more : List Left) (s : sender.Sender) → statusOf sequence repeats (left ∷ more) ≡ statusOf sequence repeats more
+        → repeatsSent (left ∷ more) ≡ repeatsSent more → dropsReported (left ∷ more) ≡ dropsReported more → Course sequence payload repeats more s
+        → Course sequence payload repeats (left ∷ more) s
+    unnoticed repeats left more s same same-repeats same-reports c =
         record {
-          accounted = subst⁻¹ (λ (st : Status). Accounted sequence payload st held) same (c .accounted);
+          accounted = subst⁻¹ (λ (st : Status). AccountedFor sequence payload st s) same (c .accounted);
           count = c .count;
           counted = c .counted ∙ ap repeatsIn (sym same);
           again = same-repeats ∙ c .again;
@@ -64,12 +69,12 @@ module _ (names : List (List ℕ)) where
         }
 
     -- a call that settles what became of it
-    settled : (repeats : ℕ) (left : Left) (more : List Left) (held : Option Held) (st : Status) → statusOf sequence repeats (left ∷ more) ≡ st → repeatsIn st ≡ repeats
-        → Accounted sequence payload st held → repeatsSent (left ∷ more) ≡ [] → dropsReported (left ∷ more) ≡ reportsIn sequence st
-        → Course sequence payload repeats (left ∷ more) held
-    settled repeats left more held st is count a no-repeat reports =
+    settled : (repeats : ℕ) (left : Left) (more : List Left) (s : sender.Sender) (st : Status) → statusOf sequence repeats (left ∷ more) ≡ st → repeatsIn st ≡ repeats
+        → AccountedFor sequence payload st s → repeatsSent (left ∷ more) ≡ [] → dropsReported (left ∷ more) ≡ reportsIn sequence st
+        → Course sequence payload repeats (left ∷ more) s
+    settled repeats left more s st is count a no-repeat reports =
         record {
-          accounted = subst⁻¹ (λ (x : Status). Accounted sequence payload x held) is a;
+          accounted = subst⁻¹ (λ (x : Status). AccountedFor sequence payload x s) is a;
           count = 0;
           counted = let none-more : repeats + 0 ≡ repeats = omega arith in none-more ∙ sym count ∙ ap repeatsIn (sym is);
           again = no-repeat;
@@ -80,17 +85,17 @@ module _ (names : List (List ℕ)) where
     its-own repeats frame is = eq-eqb (frame .sequence) sequence (ap (λ (f : Held). f .sequence) is)
 
     -- a repeat: the same frame once more
-    once-more : (repeats : ℕ) (frame : Held) (output : List ℕ) (more : List Left) (held : Option Held) → frame ≡ frameAfter repeats
-        → length (ownFrame (frame .sequence) (frame .payload)) ≤ length output → Course sequence payload (suc repeats) more held
+    once-more : (repeats : ℕ) (frame : Held) (output : List ℕ) (more : List Left) (s : sender.Sender) → frame ≡ frameAfter repeats
+        → length (ownFrame (frame .sequence) (frame .payload)) ≤ length output → Course sequence payload (suc repeats) more s
         → Course sequence payload repeats
-        (outgoing (Repeated (frame .sequence) (length (ownFrame (frame .sequence) (frame .payload)))) (putAt output 0 (ownFrame (frame .sequence) (frame .payload))) ∷ more) held
+        (outgoing (Repeated (frame .sequence) (length (ownFrame (frame .sequence) (frame .payload)))) (putAt output 0 (ownFrame (frame .sequence) (frame .payload))) ∷ more) s
     unfolding statusOf repeatsSent dropsReported
-    once-more repeats frame output more held is fits c =
+    once-more repeats frame output more s is fits c =
         let status-is = ap (λ (t : Bool). statusBehind (cond t status.sent-again status.untold) repeats (λ again. statusOf sequence again more)) (its-own repeats frame is) in
         let own-is = ap (λ (f : Held). ownFrame (f .sequence) (f .payload)) is in
         let one-more : repeats + suc (c .count) ≡ suc repeats + c .count = omega arith in
         record {
-          accounted = subst⁻¹ (λ (st : Status). Accounted sequence payload st held) status-is (c .accounted);
+          accounted = subst⁻¹ (λ (st : Status). AccountedFor sequence payload st s) status-is (c .accounted);
           count = suc (c .count);
           counted = one-more ∙ c .counted ∙ ap repeatsIn (sym status-is);
           again = ap₂ (λ (f : List ℕ) (fs : List (List ℕ)). f ∷ fs) (put-first output (ownFrame (frame .sequence) (frame .payload)) fits ∙ own-is) (c .again);
@@ -100,8 +105,8 @@ module _ (names : List (List ℕ)) where
     -- an acknowledgement, by its sequence
     heard-course : (repeats n other : ℕ) (reply packet : List ℕ) (m : Ledger) (cs : List Call) → repeats ≤ 2 → (t : Bool) → eqb other sequence ≡ t
         → m .sender .held ≡ cond t none (some (frameAfter repeats))
-        → (m .sender .held ≡ some (frameAfter repeats) → Course sequence payload repeats (rest names m cs) (after m cs .sender .held))
-        → Course sequence payload repeats (took n (Heard other) reply packet ∷ rest names m cs) (after m cs .sender .held)
+        → (m .sender .held ≡ some (frameAfter repeats) → Course sequence payload repeats (rest names m cs) (asSender (after m cs .sender)))
+        → Course sequence payload repeats (took n (Heard other) reply packet ∷ rest names m cs) (asSender (after m cs .sender))
     unfolding statusOf repeatsSent dropsReported
     heard-course repeats n other reply packet m cs few true e free stays =
         let quiet = idle names cs m free in
@@ -114,11 +119,11 @@ module _ (names : List (List ℕ)) where
         refl refl (stays held)
 
     pub course : (cs : List Call) (l : Ledger) (repeats : ℕ) → repeats ≤ 2 → l .sender .held ≡ some (frameAfter repeats)
-        → Course sequence payload repeats (rest names l cs) (after l cs .sender .held)
+        → Course sequence payload repeats (rest names l cs) (asSender (after l cs .sender))
     unfolding given after statusOf repeatsSent dropsReported
-    course [] l repeats few waits = record { accounted = (few, waits); count = 0; counted = omega arith; again = refl; reports = refl }
+    course [] l repeats few waits = record { accounted = (few, (ap asHeld waits, ap (λ (h : Option Held). kept (asPayload h)) waits ∙ kept-whole payload short)); count = 0; counted = omega arith; again = refl; reports = refl }
     course (c ∷ cs) l repeats few waits =
-        step-case names l (λ left s. (m : Ledger) → m .sender ≡ s → Course sequence payload repeats (left ∷ rest names m cs) (after m cs .sender .held))
+        step-case names l (λ left s. (m : Ledger) → m .sender ≡ s → Course sequence payload repeats (left ∷ rest names m cs) (asSender (after m cs .sender)))
         (record {
           quiet =
               λ left q m same.

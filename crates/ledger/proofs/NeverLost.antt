@@ -11,8 +11,6 @@ use Rattle.slices.specs.Put.{putAt}
 use Rattle.slices.proofs.PutLaws.{put-first}
 use Rattle.frame.specs.Content.{payloadMax}
 use Rattle.sender.specs.declared.state.Answer.the-variants.{Sent}
-use Rattle.sender.specs.declared.state.Held.the-variants as sender-held
-use Rattle.sender.specs.declared.state.Sender as sender
 use Rattle.display.specs.declared.Display.{Display}
 use Rattle.ledger.specs.Ledger.{Ledger, start}
 use Rattle.ledger.specs.Answers as answers
@@ -20,12 +18,11 @@ use Rattle.ledger.specs.Answers.{WatchList, namesIn, Call}
 use Rattle.ledger.specs.Sending.{SenderStep, ownFrame, sendStep}
 use Rattle.ledger.specs.Calls.{step, given, after}
 use Rattle.ledger.specs.Shown.{asSending, Left, outgoing, asLeft}
-use Rattle.ledger.specs.SentFrames as status
-use Rattle.ledger.specs.SentFrames.{statusOf, repeatsIn, reportsIn, repeatsSent, dropsReported}
+use Rattle.ledger.specs.SentFrames.{AccountedFor, statusOf, repeatsIn, reportsIn, repeatsSent, dropsReported}
 use Rattle.ledger.proofs.Chain.{Begins, Chain}
 use Rattle.ledger.proofs.EveryList.{chain-agrees, agreeing, next-call}
 use Rattle.ledger.proofs.SenderLaws.{by-send}
-use Rattle.ledger.proofs.SentAccounted.{AccountedFor, course}
+use Rattle.ledger.proofs.SentAccounted.{course}
 
 -- a frame that was sent, and all that the calls behind it left
 pub record NeverLost (sequence : ℕ) (payload frame : List ℕ) (since : List Left) (end : Display) : Type 0 where

@@ -15,7 +15,6 @@ use Rattle.slices.proofs.PutLaws.{put-first}
 use Rattle.frame.specs.Content.{payloadMax}
 use Rattle.sender.specs.State.{kept}
 use Rattle.sender.specs.declared.state.Answer.the-variants.{Repeated}
-use Rattle.sender.specs.declared.state.Held.the-variants as sender-held
 use Rattle.sender.specs.declared.state.Sender as sender
 use Rattle.display.specs.declared.Answer.the-variants.{Heard}
 use Rattle.ledger.specs.Ledger.{Held, Ledger}
@@ -24,17 +23,10 @@ use Rattle.ledger.specs.Sending.{ownFrame, heldBehind}
 use Rattle.ledger.specs.Calls.{step, given, after}
 use Rattle.ledger.specs.Shown.{asHeld, asPayload, asSender, Left, took, outgoing}
 use Rattle.ledger.specs.SentFrames as status
-use Rattle.ledger.specs.SentFrames.{Notice, Status, statusBehind, statusOf, repeatsIn, reportsIn, repeatsSent, dropsReported}
+use Rattle.ledger.specs.SentFrames.{AccountedFor, Notice, Status, statusBehind, statusOf, repeatsIn, reportsIn, repeatsSent, dropsReported}
 use Rattle.ledger.proofs.SenderAgreement.{kept-whole}
 use Rattle.ledger.proofs.SenderSteps.{step-case}
 use Rattle.ledger.proofs.NothingHeld.{rest, held-by, idle}
-
--- what each status says of the sender: it holds the frame, so often sent again; or the frame was acknowledged after at most two repeats; or
--- it was dropped after two
-abbrev pub AccountedFor : ℕ → List ℕ → Status → sender.Sender → Type 0
-AccountedFor sequence payload (status.held repeats) s = (repeats ≤ 2) × ((s .held ≡ sender-held.Frame sequence repeats) × (kept (s .payload) ≡ payload))
-AccountedFor sequence payload (status.acknowledged repeats) s = repeats ≤ 2
-AccountedFor sequence payload (status.dropped repeats) s = repeats ≡ 2
 
 -- with a frame held that was sent again so often already
 pub record Course (sequence : ℕ) (payload : List ℕ) (repeats : ℕ) (left : List Left) (s : sender.Sender) : Type 0 where

@@ -2,7 +2,7 @@
 -- that a reply buffer has, a payload at most the 383 of a packet buffer, and a frame of our own goes out only where there is room for it.
 use mathlib.Core.Path.{_≡_, refl, ap, ap₂}
 use mathlib.Core.Bool.{Bool, true, false, cond}
-use mathlib.Core.List.{List, [], _∷_}
+use mathlib.Core.List.{List, [], _∷_, map}
 use mathlib.Core.Option.{Option, some, none}
 use Prim.Native.Nat.{ℕ, _≤_}
 use native.Mathlib.Omega.{arith}
@@ -22,6 +22,7 @@ use Rattle.ledger.specs.Calls.{Effect, answerTo, repeated, closed, effec
 use Rattle.ledger.specs.Shown.{asAnswer, asSending, asLeft}
 use Rattle.ledger.specs.History.{Handed, as-reply, as-sent, as-packet, handedAs, sentAs, handedLeft}
 use Rattle.ledger.proofs.FrameLaws.{payload-bounded}
+use Rattle.ledger.specs.OwnFrames.{framesWith}
 use Rattle.ledger.proofs.RoomLaws.{by-room}
 use Rattle.ledger.proofs.SenderLaws.{by-send, by-waiting, by-timeout}
 
@@ -34,11 +35,7 @@ handedBy (answers.again sequence) = as-reply (answerTo sequence) ∷ []
 handedBy (answers.new sequence payload verdict) = as-reply (answerTo sequence) ∷ as-packet payload ∷ []
 
 abbrev pub handedOut : Sending → List Handed
-handedOut answers.idle = []
-handedOut (answers.refused n) = []
-handedOut (answers.sent sequence payload) = as-sent (ownFrame sequence payload) ∷ []
-handedOut (answers.repeated sequence payload) = as-sent (ownFrame sequence payload) ∷ []
-handedOut (answers.dropped frame) = []
+handedOut answer = map as-sent (framesWith answer)
 
 abbrev pub handedIn : Given → List Handed
 handedIn (answers.took n answer reply packet) = handedBy answer

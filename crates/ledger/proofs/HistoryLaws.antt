@@ -82,22 +82,22 @@ toldIn (answers.took n answer reply packet) = toldBy answer
 toldIn answers.ticked = []
 toldIn (answers.outgoing answer output) = sendingTold answer
 
+-- a timeout that is not refused
+record Accepted (s : SenderStep) : Type 0 where
+  events : unlessRefused (asSending (s .answer)) timeout ≡ timeout ∷ []
+  tells : sendingTold (s .answer) ≡ by-sender (s .answer) ∷ []
+
 module _ (names : List (List ℕ)) where
   -- what a call does is what its part of the history does
   pub record SameStep (l : Ledger) (c : Call) (s : calls.Step) : Type 0 where
     pub ledger : s .ledger ≡ afterHistory l (eventsOf c (asLeft names (s .given)))
     pub told : toldIn (s .given) ≡ toldInHistory l (eventsOf c (asLeft names (s .given)))
 
-  -- a timeout that is not refused
-  record SameSending (l : Ledger) (s : SenderStep) : Type 0 where
-    events : unlessRefused (asSending (s .answer)) timeout ≡ timeout ∷ []
-    tells : sendingTold (s .answer) ≡ by-sender (s .answer) ∷ []
-
   timed-out-same : (l : Ledger) (output : List ℕ) → SameStep l (answers.timeout output) (senderStep l (timesOut (l .sender)) output)
   unfolding afterHistory toldInHistory
   timed-out-same l output =
       let same =
-      by-waiting (SameSending l) (l .sender) (λ nothing. record { events = refl; tells = refl }) (λ frame e few. record { events = refl; tells = refl })
+      by-waiting Accepted (l .sender) (λ nothing. record { events = refl; tells = refl }) (λ frame e few. record { events = refl; tells = refl })
       (λ frame e many. record { events = refl; tells = refl }) in
       record { ledger = rw (same .events); told = rw (same .events, same .tells) }
 

@@ -1,3 +1,4 @@
+#![tactic(auto)]
 // Frames of the ASHv3 link, which the second radio chip speaks (document 02, C-11; source document
 // 002): the frame writer, the reader of one frame, and how long a frame is by its header.
 mod check;

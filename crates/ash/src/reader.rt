@@ -14,7 +14,7 @@ use crate::{FLAG, FRAME_MIN, HEADER_SIZE, PAYLOAD_MAX};
 use refusals::{BAD_HEADER, BAD_LENGTH, BAD_STUFFING, OTHER_CHECK, SHORT_OUTPUT};
 
 // What the bytes turned out to be. The payload's `length` bytes stand at the start of the output.
-#[derive(Drop)]
+#[derive(Clone, Copy)]
 pub enum FrameRead {
     Frame { control: u8, length: usize },
     Refused(u8),

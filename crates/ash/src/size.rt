@@ -7,7 +7,7 @@ use crate::header::{good_header, length_escaped};
 use crate::{FRAME_MIN, PAYLOAD_MAX};
 
 // So many bytes with header and check bytes; or a header with which no frame is taken.
-#[derive(Drop)]
+#[derive(Clone, Copy)]
 pub enum Size {
     Bytes(usize),
     Bad,

@@ -36,7 +36,7 @@ fn put_byte(out: &mut [u8], at: usize, byte: u8) -> usize
 }
 
 // What sent bytes turned out to be: so many bytes of payload, or that they break a rule.
-#[derive(Drop)]
+#[derive(Clone, Copy)]
 pub enum Unstuffed {
     Payload(usize),
     Broken,

@@ -1,3 +1,4 @@
+#![tactic(auto)]
 // The writer and the reader of ASHv3 frames, by request C-11 and source document 002: what they answer,
 // and the whole lent output after it.
 //

@@ -1,3 +1,4 @@
+#![tactic(auto)]
 // The check bit by bit, as it was before C-15: `make bench` measures the check against it. It is in no
 // product.
 ghost use Rattle.std.specs.Prelude.{◌≡◌};

@@ -1,3 +1,4 @@
+#![tactic(auto)]
 // The board: which names it watches, and how it reads packets.
 mod list;
 mod reading;

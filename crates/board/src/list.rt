@@ -13,20 +13,20 @@ pub const NAME_TAG: u8 = 0x01;
 const FIELD_HEAD: usize = 3;
 
 // Whether what was asked to be watched is watched.
-#[derive(Drop)]
+#[derive(Clone, Copy)]
 pub enum Listed {
     Accepted,
     Refused(u8),
 }
 
-#[derive(Drop)]
+#[derive(Clone, Copy)]
 pub struct Watched {
     pub board: Board,
     pub answer: Listed,
 }
 
 // The field that a list begins with: a name of so many bytes, or none.
-#[derive(Drop)]
+#[derive(Clone, Copy)]
 enum Field {
     Name(usize),
     Bad,

@@ -18,14 +18,14 @@ const UPDATE: u8 = 0x03;
 
 // What became of a packet: an update of the row at a place or an end mark, each with the request id,
 // or a refusal by number.
-#[derive(Drop)]
+#[derive(Clone, Copy)]
 pub enum Answer {
     Updated { row: usize, id: u16 },
     EndMark { id: u16 },
     Refused(u8),
 }
 
-#[derive(Drop)]
+#[derive(Clone, Copy)]
 pub struct Reading {
     pub board: Board,
     pub answer: Answer,
@@ -33,7 +33,7 @@ pub struct Reading {
 
 // What a packet asks of the board, with its request id: an update comes with its Name and the item
 // behind it, neither of them judged yet.
-#[derive(Drop)]
+#[derive(Clone, Copy)]
 enum Task {
     Reject(u8),
     Finish { id: u16 },

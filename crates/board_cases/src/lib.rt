@@ -1,3 +1,4 @@
+#![tactic(auto)]
 // The functions of the board, what they answer and what the rows show, by document 01: Known answers
 // for the values of cases 7 to 9, for case 6 and for age 29, and Items and packets, The board and
 // Refusal numbers for the rest.

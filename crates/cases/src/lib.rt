@@ -1,3 +1,4 @@
+#![tactic(auto)]
 // Cases as lines of text. The program `run_cases` reads them from standard input, runs the proved code
 // on each, and prints what it answers. This is such a line:
 //

@@ -1,3 +1,4 @@
+#![tactic(auto)]
 // The check of document 01: the 16-bit CRC with polynomial 1021 hex, high bit first, nothing
 // inverted, over any start value. Eight bytes are added at once, then two, and the byte that this
 // leaves by a table.

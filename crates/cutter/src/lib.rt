@@ -1,3 +1,4 @@
+#![tactic(auto)]
 // The cutter of the ASHv3 line (document 02, C-21; source document 002, 3.6 to 3.8): it takes the
 // line's bytes in pieces of any size and hands its frames on, one at a time, to the reader of C-11.
 pub mod state;

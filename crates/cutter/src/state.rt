@@ -8,7 +8,7 @@ use ash::FRAME_MAX;
 const HELD_MAX: usize = FRAME_MAX - 1;
 
 // Where the line stands: between frames, in a frame, or in what is left of one at fault.
-#[derive(Drop)]
+#[derive(Clone, Copy)]
 pub enum Place {
     Between,
     Inside,
@@ -16,7 +16,7 @@ pub enum Place {
 }
 
 // In a frame the first `length` bytes of `bytes` are those that have come.
-#[derive(Drop)]
+#[derive(Clone, Copy)]
 pub struct Cutter {
     pub place: Place,
     pub length: usize,
@@ -24,14 +24,14 @@ pub struct Cutter {
 }
 
 // What a call brought: no frame; one of so many bytes, at the start of the lent buffer; or a refusal.
-#[derive(Drop)]
+#[derive(Clone, Copy)]
 pub enum Answer {
     Nothing,
     Frame(usize),
     Refused(u8),
 }
 
-#[derive(Drop)]
+#[derive(Clone, Copy)]
 pub struct Cut {
     pub cutter: Cutter,
     pub taken: usize,

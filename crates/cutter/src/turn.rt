@@ -14,7 +14,7 @@ pub const WAKE: u8 = 0xff;
 
 // What a byte leaves: the line at `place`, with `length` bytes of a frame held; or, where one `ended`,
 // a frame of the `length` bytes held to be handed on, and the line at `place` behind it.
-#[derive(Drop)]
+#[derive(Clone, Copy)]
 pub struct Turn {
     pub place: Place,
     pub length: usize,

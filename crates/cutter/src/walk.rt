@@ -8,7 +8,7 @@ use crate::turn::{Turn, step};
 use ash::FRAME_MAX;
 
 // How many bytes were taken, and what the last of them left.
-#[derive(Drop)]
+#[derive(Clone, Copy)]
 pub struct Walked {
     pub turn: Turn,
     pub taken: usize,

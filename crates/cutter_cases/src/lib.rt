@@ -1,3 +1,4 @@
+#![tactic(auto)]
 // The cutter of the ASHv3 line, by request C-21 and source document 002, 3.6 to 3.8: what a piece of the
 // line brings, and the whole lent buffer after it.
 //

@@ -1,3 +1,4 @@
+#![tactic(auto)]
 // What the shed display runs: bytes from the module go in by pieces and minutes by ticks, our own
 // frames go out by sends and timeouts, over the link's state, the sender and the board.
 mod sending;
@@ -10,7 +11,7 @@ use rows::Board;
 use sender::Sender;
 pub use sending::{Outgoing, send, timeout};
 
-#[derive(Drop)]
+#[derive(Clone, Copy)]
 pub struct Display {
     pub link: Link,
     pub sender: Sender,
@@ -20,7 +21,7 @@ pub struct Display {
 // What a piece brought: no frame; a refusal's number and its place; the sequence of an
 // acknowledgement; the length of the reply to a data frame that came again; or the lengths of a new
 // one's reply and payload, and what the board read in it.
-#[derive(Drop)]
+#[derive(Clone, Copy)]
 pub enum Answer {
     Nothing,
     Refused {
@@ -36,7 +37,7 @@ pub enum Answer {
     },
 }
 
-#[derive(Drop)]
+#[derive(Clone, Copy)]
 pub struct Received {
     pub display: Display,
     pub taken: usize,

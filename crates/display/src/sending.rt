@@ -6,7 +6,7 @@ ghost use Rattle.display.specs.Sending.{sent_by, SendsAs};
 use crate::Display;
 
 // What a send or a timeout gave.
-#[derive(Drop)]
+#[derive(Clone, Copy)]
 pub struct Outgoing {
     pub display: Display,
     pub answer: sender::Answer,

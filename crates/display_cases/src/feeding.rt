@@ -12,13 +12,13 @@ use frame::{CONTENT_MAX, PAYLOAD_MAX};
 use link::receiver::REPLY_ROOM;
 
 // A display, and a check over all that was handed out on the way to it.
-#[derive(Drop)]
+#[derive(Clone, Copy)]
 pub struct Passed {
     pub display: Display,
     pub check: u16,
 }
 
-#[derive(Drop)]
+#[derive(Clone, Copy)]
 struct Call {
     passed: Passed,
     taken: usize,

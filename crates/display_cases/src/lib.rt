@@ -1,3 +1,4 @@
+#![tactic(auto)]
 // The display on streams: the answer of each call, then the counts and the rows, by document 01: The
 // receiver, The board, Refusal numbers for the order of refusals, and the cases that Known answers has
 // run and compared.

@@ -9,7 +9,7 @@ use refusals::{BAD_CHECK, SHORT_CONTENT};
 // What a frame turned out to be. `kind` is what the papers call its type; the payload's `length`
 // bytes stand in the content from its third byte on. The place of a refusal is a length for refusal 4,
 // an offset for 1 and 2, and 0 for others.
-#[derive(Drop)]
+#[derive(Clone, Copy)]
 pub enum FrameRead {
     Frame {
         kind: u8,

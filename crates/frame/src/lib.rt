@@ -1,3 +1,4 @@
+#![tactic(auto)]
 // Frames of the module's UART link (document 01, Frames; source document 000, UART Protocol): the
 // frame writer, the reader of one whole frame, and the judge of unstuffed content.
 pub mod content;

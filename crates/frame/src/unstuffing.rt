@@ -18,7 +18,7 @@ const LENGTH_FAULT: usize = LONG_CONTENT as usize * PLACE_LIMIT;
 
 // What sent bytes turned out to be: so many bytes of content, or a refusal's number and its place,
 // counted in sent bytes from the opening flag as 0.
-#[derive(Drop)]
+#[derive(Clone, Copy)]
 pub enum Unstuffed {
     Content(usize),
     Refused { number: u8, place: usize },

@@ -1,3 +1,4 @@
+#![tactic(auto)]
 // What the C firmware calls (include/arznavik.h): the frame check, the frame writer and the CRC, on
 // numbers and byte slices. A slice is passed as a pointer and a length.
 ghost use Rattle.std.specs.Prelude.{◌≡◌, ◌<◌, length};

@@ -12,7 +12,7 @@ use frame::{ACKNOWLEDGEMENT, DATA, HEADER_SIZE, NO_PLACE};
 use refusals::{LOADED_ACKNOWLEDGEMENT, UNKNOWN_TYPE};
 
 // What a closed frame leaves of the link's state, and its answer.
-#[derive(Drop)]
+#[derive(Clone, Copy)]
 pub struct Closed {
     pub last: Last,
     pub counts: Counts,

@@ -6,7 +6,7 @@ ghost use Rattle.link.specs.Counts.{no_counts, plus_one, count_of};
 pub const FRAME_REFUSALS: usize = 6;
 
 // `refused` holds the counts of refusals 1 to 6, in this order.
-#[derive(Drop)]
+#[derive(Clone, Copy)]
 pub struct Counts {
     pub new: u16,
     pub again: u16,
@@ -17,7 +17,7 @@ pub struct Counts {
 
 // What is counted: a data frame that is new or came again, an acknowledgement that was heard, a
 // packet that was not read, a frame that was refused with a number.
-#[derive(Drop)]
+#[derive(Clone, Copy)]
 pub enum Event {
     New,
     Again,

@@ -9,7 +9,7 @@ use refusals::{BAD_FRAMING, LONG_CONTENT};
 
 // Where a reader stands: before the first flag; behind a plain byte or a flag; behind an escape
 // byte; or in a frame in which refusal 1 or 2 was met.
-#[derive(Drop)]
+#[derive(Clone, Copy)]
 pub enum Phase {
     Before,
     Plain,
@@ -20,7 +20,7 @@ pub enum Phase {
 
 // `length` bytes of content have been unstuffed since the last flag. `place` is that of the last byte,
 // counted from the flag as 0; at a fault it stays.
-#[derive(Drop)]
+#[derive(Clone, Copy)]
 pub struct Reader {
     pub phase: Phase,
     pub length: usize,
@@ -29,7 +29,7 @@ pub struct Reader {
 
 // What a flag ends: nothing, before the first frame and behind another flag; content of so many
 // bytes; or a frame that was refused on the way, at a place.
-#[derive(Drop)]
+#[derive(Clone, Copy)]
 pub enum Ended {
     Nothing,
     Content(usize),

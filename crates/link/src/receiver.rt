@@ -14,7 +14,7 @@ use refusals::SHORT_OUTPUT;
 pub const REPLY_ROOM: usize = 9;
 
 // The sequence of the last data frame.
-#[derive(Drop)]
+#[derive(Clone, Copy)]
 pub enum Last {
     None,
     Sequence(u8),
@@ -22,7 +22,7 @@ pub enum Last {
 
 // The link's state between two pieces: the content since the last flag is the first bytes of
 // `content`, as many as the reader says.
-#[derive(Drop)]
+#[derive(Clone, Copy)]
 pub struct Link {
     pub content: [u8; CONTENT_MAX],
     pub reader: Reader,
@@ -33,7 +33,7 @@ pub struct Link {
 // What a call brought: no frame; a refusal's number and its place; the sequence of an
 // acknowledgement; the length of the reply to a data frame that came again; or the lengths of a new
 // one's reply and payload.
-#[derive(Drop)]
+#[derive(Clone, Copy)]
 pub enum Answer {
     Nothing,
     Refused { number: u8, place: usize },
@@ -42,7 +42,7 @@ pub enum Answer {
     New { reply: usize, packet: usize },
 }
 
-#[derive(Drop)]
+#[derive(Clone, Copy)]
 pub struct Received {
     pub link: Link,
     pub taken: usize,

@@ -6,7 +6,7 @@ use crate::reader::{Ended, Reader, behind_flag, ended_by_flag, step};
 use frame::{CONTENT_MAX, FLAG};
 
 // How far a piece was walked, and what the flag at which the walk stopped ended.
-#[derive(Drop)]
+#[derive(Clone, Copy)]
 pub struct Walked {
     pub reader: Reader,
     pub taken: usize,

@@ -11,7 +11,7 @@ use crate::{EOF_KIND, HEAD_LENGTH};
 const ITEM_HEAD: usize = 2;
 
 // An item of a packet: its kind, where in the packet its value starts, and the value's length.
-#[derive(Drop)]
+#[derive(Clone, Copy)]
 pub enum Found {
     At {
         kind: u8,
@@ -23,7 +23,7 @@ pub enum Found {
 
 // Some items: how many there are, how many of the wanted kind, the first of these, and the item right
 // behind that.
-#[derive(Drop)]
+#[derive(Clone, Copy)]
 pub(crate) struct Survey {
     pub(crate) all: usize,
     pub(crate) count: usize,
@@ -32,7 +32,7 @@ pub(crate) struct Survey {
 }
 
 // What the item reader finds, if the items fill the packet.
-#[derive(Drop)]
+#[derive(Clone, Copy)]
 pub(crate) enum Tally {
     Items(Survey),
     Broken,

@@ -1,3 +1,4 @@
+#![tactic(auto)]
 // Items, data packets, names and locations, and the four requests that the display writes.
 mod items;
 mod kinds;

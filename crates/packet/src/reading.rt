@@ -10,7 +10,7 @@ use crate::{DATA, EOF_KIND, HEAD_LENGTH};
 use refusals::{BAD_ITEMS, NO_DATA_PACKET};
 
 // What reading a packet gives: its opcode and request id, or the number of the refusal.
-#[derive(Drop)]
+#[derive(Clone, Copy)]
 pub enum Reading {
     Packet { opcode: u8, id: u16 },
     Refused(u8),
@@ -19,7 +19,7 @@ pub enum Reading {
 // What one look at a packet for a kind gives: its opcode and request id or the refusal, how many items
 // it has, how many of the kind, the first of these and the item right behind it. A refused packet has
 // no items.
-#[derive(Drop)]
+#[derive(Clone, Copy)]
 pub struct Look {
     pub reading: Reading,
     pub all: usize,

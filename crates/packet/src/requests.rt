@@ -22,7 +22,7 @@ const STOP_OPCODE: u8 = 0x0e;
 const OFFSET_LENGTH: u8 = 4;
 
 // Whether a file request names the offset to begin at.
-#[derive(Drop)]
+#[derive(Clone, Copy)]
 pub enum Offset {
     Given(u32),
     Omitted,

@@ -1,3 +1,4 @@
+#![tactic(auto)]
 // The packet functions, by document 01: Items and packets, and Refusal numbers for what is refused and
 // in which order. The packets under the heading of source document 000 are that document's, without
 // their transport bytes.

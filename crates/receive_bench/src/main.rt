@@ -1,3 +1,4 @@
+#![tactic(auto)]
 // Feeds a stream to a display, in pieces and over and over, and prints the counts and the rows. `make
 // bench-receive` times it on long streams, and holds its output to that of a receiver in C.
 //

@@ -1,3 +1,4 @@
+#![tactic(auto)]
 // The refusal numbers of document 01, and of the requests of document 02, under their names: no number
 // stands bare in code.
 

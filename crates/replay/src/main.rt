@@ -1,3 +1,4 @@
+#![tactic(auto)]
 // Replays a recorded history (document 01, Program and C host): reads it from standard input, field
 // by field, prints each reply as it comes, and at the end the rows and the counts.
 mod print;

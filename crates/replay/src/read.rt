@@ -13,7 +13,7 @@ const LENGTH_BYTES: usize = 2;
 
 // What became of the next field: there is none; the history is broken there; reading or writing
 // failed; a name was listed; or the display took bytes or a tick.
-#[derive(Drop)]
+#[derive(Clone, Copy)]
 pub enum Progress {
     Ended,
     Broken,
@@ -22,14 +22,14 @@ pub enum Progress {
     Played,
 }
 
-#[derive(Drop)]
+#[derive(Clone, Copy)]
 pub struct Step {
     pub display: Display,
     pub progress: Progress,
 }
 
 // A call of the display: how many bytes it took, and whether its reply was printed.
-#[derive(Drop)]
+#[derive(Clone, Copy)]
 struct Taken {
     display: Display,
     taken: usize,

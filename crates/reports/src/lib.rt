@@ -1,3 +1,4 @@
+#![tactic(auto)]
 // What a display sent, counted and shows, on standard output, in the lines that `history` puts
 // together. No contract can say what is written; each function answers whether all was.
 use history::lines::LINE_MAX;

@@ -1,3 +1,4 @@
+#![tactic(auto)]
 // The rows of the board and what befalls them: ticks and updates.
 ghost use Rattle.std.specs.Prelude.{◌≡◌, []};
 ghost use Rattle.slices.specs.Same.{same_bytes};
@@ -14,7 +15,7 @@ pub const NAME_ROOM: usize = 27;
 pub const SILENT_AGE: u8 = 30;
 
 // What a row shows: nothing yet, a value and the ticks since it came, or nothing any more.
-#[derive(Drop)]
+#[derive(Clone, Copy)]
 pub enum State {
     Never,
     Current { value: i64, age: u8 },
@@ -22,20 +23,20 @@ pub enum State {
 }
 
 // A row. Its name is the first `length` of its name bytes; an unused row has the length 0.
-#[derive(Drop)]
+#[derive(Clone, Copy)]
 pub struct Row {
     pub name: [u8; NAME_ROOM],
     pub length: usize,
     pub state: State,
 }
 
-#[derive(Drop)]
+#[derive(Clone, Copy)]
 pub struct Board {
     pub rows: [Row; ROWS],
 }
 
 // Where a row stands on the board.
-#[derive(Drop)]
+#[derive(Clone, Copy)]
 pub enum Place {
     Row(usize),
     Nowhere,

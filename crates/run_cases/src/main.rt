@@ -1,3 +1,4 @@
+#![tactic(auto)]
 // Runs the proved functions on the cases of the file `stdin`, and prints what they answer. That is
 // compared with the file `stdout`, which has what the papers say of them.
 //

@@ -5,7 +5,7 @@ use display::Display;
 use session_cases::Sessions;
 use transfer_cases::Receiving;
 
-#[derive(Drop)]
+#[derive(Clone, Copy)]
 enum Subject {
     Nothing,
     Packet,
@@ -17,7 +17,7 @@ enum Subject {
     Display,
 }
 
-#[derive(Drop)]
+#[derive(Clone, Copy)]
 pub struct State {
     subject: Subject,
     sessions: Sessions,

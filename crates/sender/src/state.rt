@@ -8,21 +8,21 @@ use frame::PAYLOAD_MAX;
 const GREATEST_SEQUENCE: u8 = 255;
 
 // A frame's payload: the first `length` of the bytes. The others are zeros.
-#[derive(Drop)]
+#[derive(Clone, Copy)]
 pub struct Payload {
     pub length: usize,
     pub bytes: [u8; PAYLOAD_MAX],
 }
 
 // The frame that waits for its acknowledgement, and how often it was sent again.
-#[derive(Drop)]
+#[derive(Clone, Copy)]
 pub enum Held {
     Nothing,
     Frame { sequence: u8, repeats: u8 },
 }
 
 // `next` is the sequence of the next frame; `payload` is the held frame's.
-#[derive(Drop)]
+#[derive(Clone, Copy)]
 pub struct Sender {
     pub next: u8,
     pub held: Held,
@@ -31,7 +31,7 @@ pub struct Sender {
 
 // What an event gave: nothing; a refusal's number; a frame sent for the first time or again, with its
 // length in the output; or the report that a frame was dropped.
-#[derive(Drop)]
+#[derive(Clone, Copy)]
 pub enum Answer {
     Nothing,
     Refused(u8),
@@ -40,7 +40,7 @@ pub enum Answer {
     Dropped(u8),
 }
 
-#[derive(Drop)]
+#[derive(Clone, Copy)]
 pub struct Outcome {
     pub sender: Sender,
     pub answer: Answer,

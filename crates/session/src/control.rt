@@ -10,7 +10,7 @@ const KIND_UNIT: u8 = 0x40;
 const COUNTER_UNIT: u8 = 0x08;
 
 // What the document calls a frame's type.
-#[derive(Drop)]
+#[derive(Clone, Copy)]
 pub enum Kind {
     Reset,
     ResetAck,
@@ -20,7 +20,7 @@ pub enum Kind {
 
 // What a control byte of the peer's says: the number of its frame, which is one of the peer's, and
 // the number that it acknowledges, which is one of ours.
-#[derive(Drop)]
+#[derive(Clone, Copy)]
 pub struct Control {
     pub kind: Kind,
     pub number: AFC,

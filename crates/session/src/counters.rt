@@ -6,11 +6,11 @@ ghost use Rattle.session.specs.Counters.{next, next_of_ours, next_of_peers};
 const NUMBERS: u8 = 7;
 
 // The number of a frame that we send: our outgoing counter, a held frame, what the peer acknowledges.
-#[derive(Drop)]
+#[derive(Clone, Copy)]
 pub struct OFC(pub u8);
 
 // The number of a frame that the peer sends: what its frames carry, and what we acknowledge.
-#[derive(Drop)]
+#[derive(Clone, Copy)]
 pub struct AFC(pub u8);
 
 // The number of our next data frame.

@@ -1,3 +1,4 @@
+#![tactic(auto)]
 // The ASHv3 conversation of the second radio chip (document 02, C-21; source document 002): RESET and
 // RESET ACK, the two counters, at most two frames held until the peer has acknowledged them. Each
 // event takes the session and gives it back with what it brought.

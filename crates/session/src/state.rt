@@ -16,14 +16,14 @@ pub(crate) const SECOND: u8 = 2;
 pub(crate) const NONE: u8 = 0;
 
 // Data of a frame before stuffing: the first `length` of the bytes.
-#[derive(Drop)]
+#[derive(Clone, Copy)]
 pub struct Payload {
     pub length: usize,
     pub bytes: [u8; PAYLOAD_MAX],
 }
 
 // The numbers of the frames that are held, oldest first.
-#[derive(Drop)]
+#[derive(Clone, Copy)]
 pub enum Held {
     Nothing,
     One(OFC),
@@ -32,7 +32,7 @@ pub enum Held {
 
 // `counter` is the number of our last data frame, or 1 behind a RESET; `good` that of the peer's last
 // good one. `older` is the data of the frame held longest, `newer` that of the other one.
-#[derive(Drop)]
+#[derive(Clone, Copy)]
 pub struct Session {
     pub counter: OFC,
     pub good: AFC,
@@ -44,7 +44,7 @@ pub struct Session {
 
 // What an event gave: a refusal's number; or how many bytes were sent and, where it is not 0, how
 // many of payload were handed up, and the frames that were dropped.
-#[derive(Drop)]
+#[derive(Clone, Copy)]
 pub enum Answer {
     Refused(u8),
     Done {
@@ -54,7 +54,7 @@ pub enum Answer {
     },
 }
 
-#[derive(Drop)]
+#[derive(Clone, Copy)]
 pub struct Outcome {
     pub session: Session,
     pub answer: Answer,

@@ -1,3 +1,4 @@
+#![tactic(auto)]
 // The ASHv3 session, by request C-21 and source document 002: what an event answers, the whole lent
 // buffers after it, and the session.
 //

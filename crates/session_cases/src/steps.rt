@@ -15,7 +15,7 @@ const OUTPUT_MAX: usize = 160;
 const PAYLOAD_ROOM_MAX: usize = 80;
 
 // A session, and one that was marked.
-#[derive(Drop)]
+#[derive(Clone, Copy)]
 pub struct Sessions {
     session: Session,
     marked: Session,

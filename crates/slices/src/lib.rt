@@ -1,3 +1,4 @@
+#![tactic(auto)]
 // Bytes put into a lent buffer, byte slices compared, two bytes read as a number, and what a writer
 // answers.
 ghost use Rattle.std.specs.Prelude.{◌≡◌, ◌-◌, min, take};
@@ -7,7 +8,7 @@ ghost use Rattle.slices.specs.Same.{same_bytes};
 
 // What a writer answers: how many bytes it put at the start of the output, or the number of the
 // refusal.
-#[derive(Drop)]
+#[derive(Clone, Copy)]
 pub enum Written {
     Length(usize),
     Refused(u8),

@@ -11,7 +11,7 @@ use packet::{Found, value_at};
 use slices::pair;
 
 // What the bytes of an Offset or a Length say.
-#[derive(Drop)]
+#[derive(Clone, Copy)]
 enum Number {
     Is(usize),
     NoNumber,
@@ -19,7 +19,7 @@ enum Number {
 
 // A fragment of a good form: where its packet has its Location and its Binary, and what it says
 // beside them.
-#[derive(Drop)]
+#[derive(Clone, Copy)]
 pub(crate) struct Fragment {
     pub(crate) location: Found,
     pub(crate) binary: Found,
@@ -29,7 +29,7 @@ pub(crate) struct Fragment {
 }
 
 // What a packet's items are as a fragment.
-#[derive(Drop)]
+#[derive(Clone, Copy)]
 pub(crate) enum Form {
     Good(Fragment),
     Bad,

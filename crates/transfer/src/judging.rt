@@ -16,7 +16,7 @@ const FRAGMENT: u8 = 0x0b;
 
 // What a packet is to a transfer: refused, or accepted with the place of its Binary, the offset of
 // its bytes and what the transfer is then.
-#[derive(Drop)]
+#[derive(Clone, Copy)]
 pub(crate) enum Verdict {
     Accepted {
         binary: Found,

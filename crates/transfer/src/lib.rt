@@ -1,3 +1,4 @@
+#![tactic(auto)]
 // The file datapoint receiver: a transfer takes the fragments of one file, in order, into a lent
 // file buffer.
 mod fragment;

@@ -8,7 +8,7 @@ use packet::{BINARY_KIND, EOF_KIND, Found, LENGTH_KIND, Look, OFFSET_KIND, look_
 const REQUIRED_ITEMS: usize = 3;
 
 // How many items a packet has, how many of each kind, and the first of each kind that has a value.
-#[derive(Drop)]
+#[derive(Clone, Copy)]
 pub(crate) struct Parts {
     pub(crate) all: usize,
     pub(crate) locations: usize,

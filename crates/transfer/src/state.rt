@@ -7,7 +7,7 @@ ghost use Rattle.transfer.specs.Transfer.{fresh_transfer, location_of, goes_on, 
 const LOCATION_ROOM: usize = packet::LONGEST_LOCATION;
 
 // The length of the file, once a fragment has declared it.
-#[derive(Drop)]
+#[derive(Clone, Copy)]
 pub enum Declared {
     Unknown,
     Known(usize),
@@ -15,7 +15,7 @@ pub enum Declared {
 
 // A transfer of one file. Its location is the first `length` of its location bytes; `next`
 // is the offset of the next fragment and the number of bytes written so far.
-#[derive(Drop)]
+#[derive(Clone, Copy)]
 pub struct Transfer {
     pub location: [u8; LOCATION_ROOM],
     pub length: usize,

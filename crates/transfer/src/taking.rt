@@ -6,14 +6,14 @@ use crate::judging::{Verdict, judge};
 use crate::state::{Transfer, advanced, fresh};
 use refusals::BAD_FRAGMENT;
 
-#[derive(Drop)]
+#[derive(Clone, Copy)]
 pub enum Answer {
     Accepted,
     Refused(u8),
 }
 
 // The transfer after a call, and what the call answers.
-#[derive(Drop)]
+#[derive(Clone, Copy)]
 pub struct Outcome {
     pub transfer: Transfer,
     pub answer: Answer,

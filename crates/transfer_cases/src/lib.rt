@@ -1,3 +1,4 @@
+#![tactic(auto)]
 // The file receiver, what it answers, the transfer after it and the lent buffer, by document 01: File
 // fragments, and Refusal numbers for the order of refusals.
 //

@@ -10,7 +10,7 @@ use transfer::Transfer;
 pub const FILE_MAX: usize = 514;
 
 // A transfer, and how many bytes the lent buffer has.
-#[derive(Drop)]
+#[derive(Clone, Copy)]
 pub struct Receiving {
     transfer: Transfer,
     room: usize,

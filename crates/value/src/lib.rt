@@ -1,3 +1,4 @@
+#![tactic(auto)]
 // The value of a value item.
 ghost use Rattle.std.specs.Prelude.{◌≡◌, ◌*◌, ◌^◌, ◌≤◌, ◌<◌, nat_abs, length};
 ghost use Rattle.value.specs.Steps.{least_negative, Word};
@@ -6,7 +7,7 @@ ghost use Rattle.value.specs.Value.{twos, number_of, boolean_of, value_of, as_va
 use packet::{BOOLEAN_KIND, CENTS_KIND, INTEGER_KIND};
 
 // What a value item says: its number, or that it is no good value.
-#[derive(Drop)]
+#[derive(Clone, Copy)]
 pub enum Value {
     Number(i64),
     Bad,

@@ -10,7 +10,7 @@ use lib.ListN.{length, length-append}
 use borrow.Author.Tests.{eq-eqb}
 use Rattle.refusals.specs.Numbers.{bad_framing, long_content, bad_check, short_output}
 use Rattle.frame.specs.Stuffing.{flag_byte}
-use Rattle.frame.specs.Content.{payload_max, no_place, Read, refused}
+use Rattle.frame.specs.Content.{payload_max, no_place, refused}
 use Rattle.frame.specs.Writing.{between_flags}
 use Rattle.frame.specs.Reading.{first_flag, flagged_bytes, between, read_run, read_frame}
 use Rattle.frame.specs.Places.{BadEscape, PassesLimit, FailsCheck, Places}

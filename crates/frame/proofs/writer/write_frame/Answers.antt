@@ -1,0 +1,15 @@
+-- `frame::writer::write_frame` meets its contract: the check goes on over the payload from that of type and sequence, and what
+-- `put_frame` writes are the parts of the content.
+use lib.ListN.{length}
+use Rattle.slices.proofs.WrittenLaws.{refuses}
+use Rattle.frame.proofs.WriteLaws.{content_parts, payload_too_long, payload_allowed}
+use Rattle.frame.proofs.writer.write_frame.Goals as goal
+
+pub returns-then-payload-gt-PAYLOAD_MAX : goal.returns-then-payload-gt-PAYLOAD_MAX
+returns-then-payload-gt-PAYLOAD_MAX c =
+    refuses _ 8 c.args.out.now (payload_too_long (length c.args.out.now) c.args.kind c.args.sequence c.args.payload.now c.if-payload-gt-PAYLOAD_MAX.true)
+
+pub returns : goal.returns
+returns c =
+    rw (payload_allowed (length c.args.out.now) c.args.kind c.args.sequence c.args.payload.now c.if-payload-gt-PAYLOAD_MAX.false, content_parts c.args.kind c.args.sequence c.args.payload.now)
+    (rw (c.check-check.ensures, c.check_pair.ensures) at c.put_frame.ensures)

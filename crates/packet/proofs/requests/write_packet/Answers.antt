@@ -1,0 +1,14 @@
+-- `packet::requests::write_packet` meets its contract: the four strings are put one behind the other.
+use Rattle.packet.proofs.WriteLaws.{packet_short, packet_put}
+use Rattle.packet.proofs.requests.write_packet.Goals as goal
+
+pub returns-then-out-total : goal.returns-then-out-total
+returns-then-out-total c =
+    packet_short c.args.opcode c.args.id c.args.front.now c.args.value.now c.args.further.now c.args.out.now c.if-out-total.true
+
+pub returns : goal.returns
+returns c =
+    packet_put c.args.opcode c.args.id c.args.front.now c.args.value.now c.args.further.now c.args.out.now
+    c.put.new.dst c.put-2.new.dst c.put-3.new.dst c.put-4.new.dst
+    c.if-out-total.false
+    c.put.ensures c.put-2.ensures c.put-3.ensures c.put-4.ensures

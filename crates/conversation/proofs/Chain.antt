@@ -6,7 +6,7 @@ use Prim.Native.Nat.{ℕ}
 use lib.ListN.{length}
 use contract.Lifetimes.{Lfts}
 use Rattle.slices.specs.Put.{put_at}
-use Rattle.slices.proofs.Lent.{Lent, lent, OutCall, InOutCall, out_call, in_out_call}
+use Rattle.slices.proofs.Lent.{Lent, LentOut, lent, lent_out, OutCall, InOutCall, out_call, in_out_call}
 use Rattle.session.specs.State.{fresh_session}
 use Rattle.session.specs.Frames.{bytes_of}
 use Rattle.session.specs.Results.{Result, frames_sent, payload_handed, outcome_of, SendsAs, HandsAs}
@@ -41,10 +41,10 @@ TimesOut s = OutCall timeout.Asked timeout.Learnt (λ output. (s, (output, tt)))
 pub record Receives (s : Session) (frame output buffer : List ℕ) (outcome : Outcome) (output₁ buffer₁ : List ℕ) : Type 0 where
   pub lifetimes : Lfts 3
   pub frame_lent : Lent frame
-  pub output_lent : Lent output
-  pub buffer_lent : Lent buffer
-  pub output_left : Lent output₁
-  pub buffer_left : Lent buffer₁
+  pub output_lent : LentOut output
+  pub buffer_lent : LentOut buffer
+  pub output_left : LentOut output₁
+  pub buffer_left : LentOut buffer₁
   pub asked : receive.Asked lifetimes (s, (frame_lent.slice, (output_lent.slice, (buffer_lent.slice, tt))))
   pub learnt :
       receive.Learnt lifetimes (s, (frame_lent.slice, (output_lent.slice, (buffer_lent.slice, tt)))) outcome
@@ -120,10 +120,10 @@ every_list_runs s (events.receive frame output buffer ∷ es) =
     record {
       lifetimes = ([], ([], ([], tt)));
       frame_lent = lent frame;
-      output_lent = lent output;
-      buffer_lent = lent buffer;
-      output_left = lent (sent_out r output);
-      buffer_left = lent handed;
+      output_lent = lent_out output;
+      buffer_lent = lent_out buffer;
+      output_left = lent_out (sent_out r output);
+      buffer_left = lent_out handed;
       asked = tt;
       learnt = record { answers = refl; sends = refl; hands_up = refl };
     } in

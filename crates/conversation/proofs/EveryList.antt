@@ -67,16 +67,16 @@ unfolding given after
 chain_agrees l done a = record { gives = refl; agrees = a }
 chain_agrees l (resets {s = s} {output = output} r rest) a =
     let first = went s (events.reset output) _ _ _ _ _ (reset_matches l s a output) (alone s _ output _ _ (was_reset r)) in
-    further l (events.reset output) _ _ _ _ _ _ first (chain_agrees _ rest first.agrees)
+    further l (events.reset output) _ _ _ _ _ _ first (chain_agrees (step l (events.reset output)).ledger rest first.agrees)
 chain_agrees l (sends {s = s} {payload = payload} {output = output} r rest) a =
     let first = went s (events.send payload output) _ _ _ _ _ (send_matches l s a payload output) (alone s _ output _ _ (was_sent r)) in
-    further l (events.send payload output) _ _ _ _ _ _ first (chain_agrees _ rest first.agrees)
+    further l (events.send payload output) _ _ _ _ _ _ first (chain_agrees (step l (events.send payload output)).ledger rest first.agrees)
 chain_agrees l (receives {s = s} {frame = frame} {output = output} {buffer = buffer} r rest) a =
     let first = went s (events.receive frame output buffer) _ _ _ _ _ (receive_matches l s a frame output buffer) (was_received r) in
-    further l (events.receive frame output buffer) _ _ _ _ _ _ first (chain_agrees _ rest first.agrees)
+    further l (events.receive frame output buffer) _ _ _ _ _ _ first (chain_agrees (step l (events.receive frame output buffer)).ledger rest first.agrees)
 chain_agrees l (times_out {s = s} {output = output} r rest) a =
     let first = went s (events.timeout output) _ _ _ _ _ (timeout_matches l s a output) (alone s _ output _ _ (was_timeout r)) in
-    further l (events.timeout output) _ _ _ _ _ _ first (chain_agrees _ rest first.agrees)
+    further l (events.timeout output) _ _ _ _ _ _ first (chain_agrees (step l (events.timeout output)).ledger rest first.agrees)
 
 -- a fresh session agrees with the ledger's start
 fresh_agrees : Agrees start fresh_session
@@ -96,6 +96,7 @@ kept_are s counter [] (none_held_law is) = ap (λ (h : Held). kept_by h s) is
 kept_are s counter (e ∷ []) (one_held is k last) = ap (λ (h : Held). kept_by h s) is ∙ ap (λ (x : Kept). x ∷ []) (kept_is e _ _ k)
 kept_are s counter (e ∷ f ∷ []) (two_held is j k first last) =
     ap (λ (h : Held). kept_by h s) is ∙ ap₂ (λ (x y : Kept). x ∷ y ∷ []) (kept_is e _ _ j) (kept_is f _ _ k)
+kept_are s counter (e ∷ f ∷ _ ∷ _) h = elim h [ ]
 
 -- what the ledger says of a list of events
 pub record IsLedgers (es : List Event) (left : List Left) (end : Session) : Type 0 where

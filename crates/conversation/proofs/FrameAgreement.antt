@@ -70,3 +70,4 @@ module _ (l : Ledger) (s : Session) (a : Agrees l s) where
       by_held (e ∷ f ∷ []) (two_held is j k first last) =
           subst⁻¹ (λ (h : Held). SameFrames (held_frames h s) (again l.good e ∷ again l.good f ∷ [])) is
           (more_frames (again_same e _ _ j) (more_frames (again_same f _ _ k) no_frame))
+      by_held (e ∷ f ∷ _ ∷ _) h = elim h [ ]

@@ -8,7 +8,6 @@ use Rattle.slices.proofs.Impossible.{impossible}
 use Rattle.session.specs.Counters.{of_ours}
 use Rattle.session.specs.declared.counters.OFC.{OFC}
 use Rattle.conversation.specs.Ledger.{Fate, waiting, covered, dropped, Entry, on_line, if_waiting, held, if_dropped, gone, became, dropped_if, drop_all, covered_if, cover_to}
-use Rattle.conversation.specs.Steps.{after}
 
 -- strings of entries one behind the other
 held_append : (xs ys : List Entry) → held (xs ++ ys) ≡ held xs ++ held ys

@@ -32,17 +32,20 @@ pub reported : (s : Session) (counter : ℕ) (es : List Entry) → Holds s count
 reported s counter [] (none_held_law is) = is
 reported s counter (e ∷ []) (one_held is k last) = is ∙ ap One k.number_is
 reported s counter (e ∷ f ∷ []) (two_held {m = m} is j k first last) = rw (is, j.number_is, k.number_is)
+reported s counter (e ∷ f ∷ _ ∷ _) h = elim h [ ]
 
 -- two frames are held exactly if there are two entries
 pub two_agree : (s : Session) (counter : ℕ) (es : List Entry) → Holds s counter es → holds_two s.held ≡ leb 2 (length es)
 two_agree s counter [] (none_held_law is) = rw is
 two_agree s counter (e ∷ []) (one_held is k last) = rw is
 two_agree s counter (e ∷ f ∷ []) (two_held is j k first last) = rw is
+two_agree s counter (e ∷ f ∷ _ ∷ _) h = elim h [ ]
 
 pub held_at_most_two : (s : Session) (counter : ℕ) (es : List Entry) → Holds s counter es → length es ≤ 2
 held_at_most_two s counter [] (none_held_law is) = omega arith
 held_at_most_two s counter (e ∷ []) (one_held is k last) = omega arith
 held_at_most_two s counter (e ∷ f ∷ []) (two_held is j k first last) = omega arith
+held_at_most_two s counter (e ∷ f ∷ _ ∷ _) h = elim h [ ]
 
 -- a frame of one more is held, with the next number
 pub payload_kept : (payload : List ℕ) → length (stuff payload) ≤ payload_max → kept (payload_of payload) ≡ payload
@@ -61,6 +64,7 @@ module _ (s : Session) (counter : ℕ) (payload : List ℕ) (short : length (stu
   holds_more [] (none_held_law is) few = rw is (one_held refl keeps_more refl)
   holds_more (e ∷ []) (one_held is k last) few = rw is (two_held refl k keeps_more (ap suc last) refl)
   holds_more (e ∷ f ∷ []) (two_held is j k first last) few = impossible cc
+  holds_more (e ∷ f ∷ _ ∷ _) h few = elim h [ ]
 
 -- the frames that stay when a number on the line names one of them, or none
 abbrev stay : Option ℕ → List Entry → List Entry
@@ -118,6 +122,7 @@ module _ (s : Session) (counter seen : ℕ) where
   covers (e ∷ []) (one_held {n = n} is k last) = one_covers e n is k last (eqb (on_line e.number) seen) refl
   covers (e ∷ f ∷ []) (two_held {m = m} {n = n} is j k first last) =
       two_covers e f m n is j k first last (eqb (on_line e.number) seen) (eqb (on_line f.number) seen) refl refl
+  covers (e ∷ f ∷ _ ∷ _) h = elim h [ ]
 
 -- what stays held when an ACK or a NACK names a number
 pub holds_covered : (s : Session) (counter seen : ℕ) (es : List Entry) → Holds s counter (held es) → Holds (covered s (of_ours seen)) counter (held (cover seen es))
@@ -128,3 +133,4 @@ pub holds_recorded : (s : Session) (counter : ℕ) (good : AFC) (es : List Entry
 holds_recorded s counter good [] (none_held_law is) = none_held_law is
 holds_recorded s counter good (e ∷ []) (one_held is k last) = one_held is k last
 holds_recorded s counter good (e ∷ f ∷ []) (two_held is j k first last) = two_held is j k first last
+holds_recorded s counter good (e ∷ f ∷ _ ∷ _) h = elim h [ ]

@@ -31,9 +31,12 @@ use Rattle.conversation.proofs.RightFrames.{Among, first, further, Right, reset_
 
 -- a held frame is within C-11's limit, and so is an empty one
 held_short : {s : Session} {counter : ℕ} {es : List Entry} {e : Entry} → Holds s counter es → Among e es → length (stuff e.payload) ≤ payload_max
+held_short (none_held_law is) there = elim there [ ]
 held_short (one_held is k last) first = k.short
+held_short (one_held is k last) (further there) = elim there [ ]
 held_short (two_held is j k older newer) first = j.short
 held_short (two_held is j k older newer) (further first) = k.short
+held_short (two_held is j k older newer) (further (further there)) = elim there [ ]
 
 pub right_short : (l : Ledger) (s : Session) (f : Sent) → Agrees l s → Right l f → length (stuff f.payload) ≤ payload_max
 unfolding each
@@ -69,6 +72,7 @@ repeats_size s counter good (e ∷ f ∷ []) (two_held is j k older newer) =
       frame_size (again good e) j.short,
       frame_size (again good f) k.short,
     )
+repeats_size s counter good (e ∷ f ∷ _ ∷ _) h = elim h [ ]
 
 ack_size : (l : Ledger) → length (line_of (empty Ack l ∷ [])) ≡ 7
 unfolding each

@@ -71,6 +71,7 @@ step_sends l e = (step_case l Says (cases l) e).sends
 
 repeat_right : (l : Ledger) (es : List Entry) → ((e : Entry) → Among e es → Among e (held l.entries)) → (f : Sent) → Among f (map (again l.good) es)
     → Right l f
+repeat_right l [] among f is = elim is [ ]
 repeat_right l (e ∷ es) among f first = held_right e (among e first)
 repeat_right l (e ∷ es) among f (further is) = repeat_right l es (λ d there. among d (further there)) f is
 
@@ -83,10 +84,13 @@ behind l (g ∷ fs) gs f one-part other-part (further is) = behind l fs gs f (λ
 
 -- each frame that is sent
 pub right_of : (l : Ledger) (fs : List Sent) (f : Sent) → Sends l fs → Among f fs → Right l f
+right_of l _ f nothing is = elim is [ ]
 right_of l (g ∷ []) f (one right) first = right
+right_of l (g ∷ []) f (one right) (further is) = elim is [ ]
 right_of l fs f all_again is = repeat_right l (held l.entries) (λ e there. there) f is
 right_of l fs f all_again_and_ack is =
     behind l (repeats l) (empty Ack l ∷ []) f (λ g there. repeat_right l (held l.entries) (λ e here. here) g there) (λ g there. alone g there) is
   where
     alone : (g : Sent) → Among g (empty Ack l ∷ []) → Right l g
     alone g first = ack_right
+    alone g (further is) = elim is [ ]

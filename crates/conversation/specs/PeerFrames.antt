@@ -6,7 +6,7 @@ use Rattle.session.specs.declared.control.Kind.{Kind}
 use Rattle.session.specs.declared.control.Kind.TheVariants.{Reset, ResetAck, Ack, Nack}
 use Rattle.session.specs.declared.control.Control.{Control}
 use Rattle.conversation.specs.Ledger.{Ledger, Entry, on_line, cover}
-use Rattle.conversation.specs.Events.{Sent, Effect, refused}
+use Rattle.conversation.specs.Events.{Sent, Effect}
 use Rattle.conversation.specs.OurEvents.{saying, empty, repeats, restarting}
 
 abbrev pub ignoring : Ledger → Effect

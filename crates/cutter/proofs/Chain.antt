@@ -6,7 +6,7 @@ use Prim.Native.Nat.{ℕ}
 use lib.ListN.{length}
 use contract.Lifetimes.{Lfts}
 use Rattle.slices.specs.Put.{put_at}
-use Rattle.slices.proofs.Lent.{lent, InOutCall, in_out_call}
+use Rattle.slices.proofs.Lent.{lent, lent_out, InOutCall, in_out_call}
 use Rattle.cutter.specs.Calls.{Call, cut_of, cut_by, CutsAs}
 use Rattle.cutter.specs.History.{Offer, Left}
 use Rattle.cutter.specs.declared.state.Cutter.{Cutter}
@@ -55,7 +55,7 @@ every_list_runs cutter (o ∷ os) =
 
 -- a fresh state is there, and nothing is asked before a call, whatever came before it
 pub next_cut : (cutter : Cutter) (piece before : List ℕ) (lifetimes : Lfts 2)
-    → cut.Asked lifetimes (cutter, ((lent piece).slice, ((lent before).slice, tt)))
+    → cut.Asked lifetimes (cutter, ((lent piece).slice, ((lent_out before).slice, tt)))
 next_cut cutter piece before lifetimes = tt
 
 pub next_fresh : fresh.Asked tt tt

@@ -1,3 +1,4 @@
+-- `value::word` meets its contract: a turn takes one byte more, and the sum stays within its bytes.
 use mathlib.Core.Path.{◌≡◌, refl, ◌∙◌}
 use mathlib.Core.List.{[]}
 use Prim.Native.Nat.{◌≤◌}

@@ -18,11 +18,13 @@ returns-then-rest-ne-NAME_TAG c =
 
 pub returns-then-rest-size : goal.returns-then-rest-size
 returns-then-rest-size c =
-    let cut : length (drop 3 c.args.rest.now) < pair_of (get_or c.args.rest.now 1 0) (get_or c.args.rest.now 2 0) = rw (← c.pair-size.ensures) (simp length-drop c.if-rest-size.true) in
-    rw (field_at c.args.rest.now (omega arith), eq-eqb (get_or c.args.rest.now 0 0) 1 c.if-rest-ne-NAME_TAG.false, lt-leb (pair_of (get_or c.args.rest.now 1 0) (get_or c.args.rest.now 2 0)) (length (drop 3 c.args.rest.now)) cut)
+    let rest = c.args.rest.now in
+    let cut : length (drop 3 rest) < pair_of (get_or rest 1 0) (get_or rest 2 0) = rw (← c.pair-size.ensures) (simp length-drop c.if-rest-size.true) in
+    rw (field_at rest (omega arith), eq-eqb (get_or rest 0 0) 1 c.if-rest-ne-NAME_TAG.false, lt-leb (pair_of (get_or rest 1 0) (get_or rest 2 0)) (length (drop 3 rest)) cut)
 
 pub returns : goal.returns
 returns c =
-    let whole : pair_of (get_or c.args.rest.now 1 0) (get_or c.args.rest.now 2 0) ≤ length (drop 3 c.args.rest.now) = rw (← c.pair-size.ensures) (simp length-drop c.if-rest-size.false) in
-    rw (field_at c.args.rest.now (omega arith), le-leb (pair_of (get_or c.args.rest.now 1 0) (get_or c.args.rest.now 2 0)) (length (drop 3 c.args.rest.now)) whole, eq-eqb (get_or c.args.rest.now 0 0) 1 c.if-rest-ne-NAME_TAG.false)
+    let rest = c.args.rest.now in
+    let whole : pair_of (get_or rest 1 0) (get_or rest 2 0) ≤ length (drop 3 rest) = rw (← c.pair-size.ensures) (simp length-drop c.if-rest-size.false) in
+    rw (field_at rest (omega arith), le-leb (pair_of (get_or rest 1 0) (get_or rest 2 0)) (length (drop 3 rest)) whole, eq-eqb (get_or rest 0 0) 1 c.if-rest-ne-NAME_TAG.false)
     (ap Name c.pair-size.ensures)

@@ -24,14 +24,14 @@ returns-in-Row c =
 pub returns-in_default-find : goal.returns-in_default-find
 returns-in_default-find c =
     let valid : valid_name c.args.name.now ≡ true = sym c.valid_name.ensures ∙ c.if-not-valid_name.false in
-    let all-rows : length c.args.board.rows ≡ row_count = board_rows c.args.board _ c.well_formed.0 in
+    let all_rows : length c.args.board.rows ≡ row_count = board_rows c.args.board _ c.well_formed.0 in
     let full = place_nowhere (place_of [] (row_names c.args.board)) (sym c.find-2.ensures ∙ c.in_default-find.is) in
-    c.refused-in_default-find.ensures ∙ sym (watch_full c.args.board c.args.name.now valid all-rows full)
+    c.refused-in_default-find.ensures ∙ sym (watch_full c.args.board c.args.name.now valid all_rows full)
 
 pub returns : goal.returns
 returns c =
     let valid : valid_name c.args.name.now ≡ true = sym c.valid_name.ensures ∙ c.if-not-valid_name.false in
-    let all-rows : length c.args.board.rows ≡ row_count = board_rows c.args.board _ c.well_formed.0 in
+    let all_rows : length c.args.board.rows ≡ row_count = board_rows c.args.board _ c.well_formed.0 in
     let new = place_nowhere (place_of c.args.name.now (row_names c.args.board)) (sym c.find.ensures ∙ c.in_default.is) in
     let place = place_row (place_of [] (row_names c.args.board)) _ (sym c.find-2.ensures ∙ c.in-Row-find.is) in
-    rw (c.put_row.ensures, c.fresh_row-row.ensures) (sym (watch_first c.args.board c.args.name.now valid all-rows new place))
+    rw (c.put_row.ensures, c.fresh_row-row.ensures) (sym (watch_first c.args.board c.args.name.now valid all_rows new place))

@@ -1,3 +1,4 @@
+-- `packet::items::read_items` meets its contract: each way through a turn has its law of ReaderLaws.
 use mathlib.Core.Path.{sym, ◌∙◌}
 use native.Mathlib.Omega.{arith}
 use Rattle.packet.proofs.ReaderLaws.{reached_first, reached_broken, reached_last, item_read}

@@ -1,3 +1,4 @@
+-- `packet::names::valid_name` meets its contract: each test is one of the definition, in its order, and each byte has its law.
 use mathlib.Core.Path.{◌≡◌, sym, ◌∙◌}
 use mathlib.Core.Bool.{false}
 use Prim.Native.Nat.{◌<◌}

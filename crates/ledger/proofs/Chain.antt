@@ -5,7 +5,7 @@ use mathlib.Core.List.{List, [], ◌∷◌, ◌++◌}
 use Prim.Native.Nat.{ℕ}
 use lib.ListN.{length}
 use contract.Lifetimes.{Lfts}
-use Rattle.slices.proofs.Lent.{Lent, lent, InCall}
+use Rattle.slices.proofs.Lent.{Lent, LentOut, InCall}
 use Rattle.rows.specs.declared.Board.{Board}
 use Rattle.rows.proofs.fresh.Reads as fresh
 use Rattle.board.specs.declared.list.Listed.TheVariants.{Accepted}
@@ -31,10 +31,10 @@ use Rattle.ledger.specs.Shown.{Left, took, ticked, outgoing}
 pub record Receives (d : Display) (bytes reply packet : List ℕ) (result : Received) (reply₁ packet₁ : List ℕ) : Type 0 where
   pub lifetimes : Lfts 3
   pub piece_lent : Lent bytes
-  pub reply_lent : Lent reply
-  pub packet_lent : Lent packet
-  pub reply_left : Lent reply₁
-  pub packet_left : Lent packet₁
+  pub reply_lent : LentOut reply
+  pub packet_lent : LentOut packet
+  pub reply_left : LentOut reply₁
+  pub packet_left : LentOut packet₁
   pub asked : receive.Asked lifetimes (d, (piece_lent.slice, (reply_lent.slice, (packet_lent.slice, tt))))
   pub learnt :
       receive.Learnt lifetimes (d, (piece_lent.slice, (reply_lent.slice, (packet_lent.slice, tt)))) result
@@ -45,8 +45,8 @@ pub record Receives (d : Display) (bytes reply packet : List ℕ) (result : Rece
 pub record Sends (d : Display) (payload output : List ℕ) (result : Outgoing) (output₁ : List ℕ) : Type 0 where
   pub lifetimes : Lfts 2
   pub payload_lent : Lent payload
-  pub output_lent : Lent output
-  pub output_left : Lent output₁
+  pub output_lent : LentOut output
+  pub output_left : LentOut output₁
   pub asked : send.Asked lifetimes (d, (payload_lent.slice, (output_lent.slice, tt)))
   pub learnt :
       send.Learnt lifetimes (d, (payload_lent.slice, (output_lent.slice, tt))) result
@@ -54,8 +54,8 @@ pub record Sends (d : Display) (payload output : List ℕ) (result : Outgoing) (
 
 pub record TimesOut (d : Display) (output : List ℕ) (result : Outgoing) (output₁ : List ℕ) : Type 0 where
   pub lifetimes : Lfts 1
-  pub output_lent : Lent output
-  pub output_left : Lent output₁
+  pub output_lent : LentOut output
+  pub output_left : LentOut output₁
   pub asked : timeout.Asked lifetimes (d, (output_lent.slice, tt))
   pub learnt : timeout.Learnt lifetimes (d, (output_lent.slice, tt)) result (d, (output_left.slice, tt))
 

@@ -6,7 +6,7 @@ use Prim.Native.Nat.{ℕ}
 use lib.ListN.{length}
 use contract.Lifetimes.{Lfts}
 use Rattle.slices.specs.Put.{put_at}
-use Rattle.slices.proofs.Lent.{lent}
+use Rattle.slices.proofs.Lent.{lent, lent_out}
 use Rattle.rows.specs.declared.Board.{Board}
 use Rattle.rows.proofs.fresh.Reads as fresh
 use Rattle.sender.specs.Events.{send_of, timeout_of}
@@ -38,10 +38,10 @@ received_by d bytes reply packet =
     record {
       lifetimes = ([], ([], ([], tt)));
       piece_lent = lent bytes;
-      reply_lent = lent reply;
-      packet_lent = lent packet;
-      reply_left = lent (put_at reply 0 outcome.reply);
-      packet_left = lent (put_at packet 0 outcome.packet);
+      reply_lent = lent_out reply;
+      packet_lent = lent_out packet;
+      reply_left = lent_out (put_at reply 0 outcome.reply);
+      packet_left = lent_out (put_at packet 0 outcome.packet);
       asked = tt;
       learnt = record { answers = refl; replied = refl; handed_out = refl };
     }
@@ -52,8 +52,8 @@ sent_by_law d payload output =
     record {
       lifetimes = ([], ([], tt));
       payload_lent = lent payload;
-      output_lent = lent output;
-      output_left = lent (put_at output 0 (send_of d.sender payload (length output)).output);
+      output_lent = lent_out output;
+      output_left = lent_out (put_at output 0 (send_of d.sender payload (length output)).output);
       asked = tt;
       learnt = record { answers = refl; sends = refl };
     }
@@ -63,8 +63,8 @@ pub timed_out_by : (d : Display) (output : List ℕ)
 timed_out_by d output =
     record {
       lifetimes = ([], tt);
-      output_lent = lent output;
-      output_left = lent (put_at output 0 (timeout_of d.sender (length output)).output);
+      output_lent = lent_out output;
+      output_left = lent_out (put_at output 0 (timeout_of d.sender (length output)).output);
       asked = tt;
       learnt = record { answers = refl; sends = refl };
     }
@@ -87,13 +87,13 @@ every_list_runs d (answers.timeout output ∷ cs) =
 
 -- Nothing is asked before the next call, whatever came before it.
 pub next_piece : (d : Display) (bytes reply packet : List ℕ) (lifetimes : Lfts 3)
-    → receive.Asked lifetimes (d, ((lent bytes).slice, ((lent reply).slice, ((lent packet).slice, tt))))
+    → receive.Asked lifetimes (d, ((lent bytes).slice, ((lent_out reply).slice, ((lent_out packet).slice, tt))))
 next_piece d bytes reply packet lifetimes = tt
 
-pub next_send : (d : Display) (payload output : List ℕ) (lifetimes : Lfts 2) → send.Asked lifetimes (d, ((lent payload).slice, ((lent output).slice, tt)))
+pub next_send : (d : Display) (payload output : List ℕ) (lifetimes : Lfts 2) → send.Asked lifetimes (d, ((lent payload).slice, ((lent_out output).slice, tt)))
 next_send d payload output lifetimes = tt
 
-pub next_timeout : (d : Display) (output : List ℕ) (lifetimes : Lfts 1) → timeout.Asked lifetimes (d, ((lent output).slice, tt))
+pub next_timeout : (d : Display) (output : List ℕ) (lifetimes : Lfts 1) → timeout.Asked lifetimes (d, ((lent_out output).slice, tt))
 next_timeout d output lifetimes = tt
 
 pub next_tick : (d : Display) → tick.Asked tt (d, tt)

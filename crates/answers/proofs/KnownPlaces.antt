@@ -1,6 +1,6 @@
 -- 02, C-16, on frames that can be looked at: each place computes, in the whole-frame reader and in a display whose pieces cut the fault.
 use mathlib.Core.Path.{◌≡◌, refl, ◌∙◌}
-use mathlib.Core.List.{List, [], ◌∷◌, ◌++◌, map}
+use mathlib.Core.List.{List, [], ◌∷◌, ◌++◌}
 use Prim.Native.Nat.{ℕ}
 use lib.ListN.{replicate}
 use Rattle.frame.specs.Content.{payload_max, refused}
@@ -9,10 +9,9 @@ use Rattle.frame.specs.Stuffing.{stuff}
 use Rattle.frame.specs.Writing.{between_flags}
 use Rattle.display.specs.declared.Answer.TheVariants.{Nothing, Refused}
 use Rattle.display.specs.declared.Display.{Display}
-use Rattle.ledger.specs.Ledger.{start}
 use Rattle.ledger.specs.Answers.{one_by_one, Call, piece}
 use Rattle.ledger.specs.Calls.{given}
-use Rattle.ledger.specs.Shown.{as_left, Left, took}
+use Rattle.ledger.specs.Shown.{Left, took}
 use Rattle.ledger.proofs.Chain.{Begins, Chain}
 use Rattle.ledger.proofs.EveryList.{agreeing}
 use Rattle.answers.specs.Table.{h1}

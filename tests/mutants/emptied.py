@@ -3,8 +3,8 @@
 
     emptied.py OUT [CRATE..]
 
-An emptied contract says only that the answer is itself, and the function's own proof is cut down to that, so
-that what breaks is a caller's proof or a theorem that rests on the contract. It works on a copy of the
+An emptied contract says only that the answer is itself, and what the function's own proof says of the answer is left
+out, so that what breaks is a caller's proof or a theorem that rests on the contract. It works on a copy of the
 repository under OUT/work and writes OUT/emptied.txt, a line for each function: the function, then the file and the
 name that is refused first, in its own crate or in the crates above it, lowest first. `nothing` there is a contract
 that no library needs. A function of which the prover gave no answer is a failure.
@@ -18,15 +18,16 @@ from typing import Iterator, NamedTuple
 from run import check, make_copy
 
 FUNCTION = re.compile(r"^pub (?:extern \"C\" )?fn (\w+)", re.M)
-ENSURES = re.compile(r"^    ensures \{.*\}$", re.M)
-EMPTY = "    ensures { λ r. ⌜ r ≡ r ⌝ }"
-EQUALITY = "ghost use mathlib.Core.Path.{_≡_};\n"
+# The clauses that a function ensures, each on a line of its own.
+ENSURES = re.compile(r"^(?:    ensures(?: \w+)? \{.*\}\n)+", re.M)
+EMPTY = "    ensures { result ≡ result }\n"
+EQUALITY = "ghost use Rattle.std.specs.Prelude.{◌≡◌};\n"
 # The proof that the answer is as promised: its signature, what it looks into, and its lines.
-RETURNS = re.compile(r"^(returns\S*)( : [^\n]*\n)(?:unfolding [^\n]*\n)?\1 (\w+) =.*?(?=^\S|\Z)", re.M | re.S)
+RETURNS = re.compile(r"^(?:pub )?(returns\S*) : [^\n]*\n(?:unfolding [^\n]*\n)?\1 \w+ =.*?(?=^\S|\Z)", re.M | re.S)
 # Verdicts that show nothing: the changed source was not read, or the prover took too long.
 NO_ANSWER = ("unread", "late")
 # Where an error stands, and the name of what is refused.
-PLACE = re.compile(r"(\S+?):\d+:\d+: error: `([^`]+)`")
+PLACE = re.compile(r"(\S+?):\d+:\d+: [^`]*`([^`]+)`")
 
 
 class Public(NamedTuple):
@@ -60,8 +61,9 @@ def main() -> None:
 
 def libraries(copy: Path) -> dict[str, list[str]]:
     """The libraries of the repository in the order of their layers, with all that each stands on."""
-    named = dict(line.split(":") for line in (copy / "crates.txt").read_text().splitlines() if ":" in line)
-    own = {name: deps.split() for name, deps in named.items() if (copy / "crates" / name / "src/lib.rt").exists()}
+    lines = [line.split(":") for line in (copy / "crates.txt").read_text().splitlines() if ":" in line]
+    named = {head.split()[0]: deps.split() for head, deps in lines}
+    own = {name: deps for name, deps in named.items() if (copy / "crates" / name / "src/lib.rt").exists()}
     order: dict[str, list[str]] = {}
     while len(order) < len(own):
         for name, deps in own.items():
@@ -79,7 +81,7 @@ def public_functions(copy: Path, crate: str) -> Iterator[Public]:
             following = FUNCTION.search(text, found.end())
             if contract and (not following or contract.start() < following.start()):
                 emptied = text[: contract.start()] + EMPTY + text[contract.end() :]
-                if EQUALITY not in emptied and "_≡_" not in emptied:
+                if "◌≡◌" not in emptied:
                     emptied = re.sub(r"^(?=ghost use)", EQUALITY, emptied, count=1, flags=re.M)
                 yield Public(crate, source, found.group(1), emptied)
 
@@ -110,21 +112,12 @@ def broken(copy: Path, order: dict[str, list[str]], function: Public) -> str:
 def own_proof(copy: Path, function: Public) -> Path:
     module = function.source.relative_to(copy / "crates" / function.crate / "src").with_suffix("")
     folder = [] if module.name == "lib" else module.parts
-    return copy.joinpath("crates", function.crate, "proofs", *folder, function.name, "Proof.antt")
+    return copy.joinpath("crates", function.crate, "proofs", *folder, function.name, "Answers.antt")
 
 
 def cut_down(proof: str) -> str:
-    """The proof of an emptied contract. A walk by hand says its fact in the step `says`."""
-    return RETURNS.sub(r"\1\2\1 \3 = refl\n\n", with_refl(proof)).replace("says ! same", "says ! refl")
-
-
-def with_refl(text: str) -> str:
-    """The proof with `refl` in scope."""
-    if re.search(r"^use mathlib\.Core\.Path\.\{[^}]*\brefl\b", text, re.M):
-        return text
-    if re.search(r"^use mathlib\.Core\.Path\.\{", text, re.M):
-        return re.sub(r"^(use mathlib\.Core\.Path\.\{)", r"\1refl, ", text, count=1, flags=re.M)
-    return re.sub(r"^use ", "use mathlib.Core.Path.{refl}\nuse ", text, count=1, flags=re.M)
+    """The proof of an emptied contract, whose own goals need no answer."""
+    return RETURNS.sub("", proof)
 
 
 if __name__ == "__main__":

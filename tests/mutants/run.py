@@ -12,7 +12,7 @@ error. A constant that its own crate does not pin down is tried in the crates ab
     form     refused: the proof names a place that the changed code does not have
     passed   proved: the contract lets it through, or it means the same
     unread   not a program or definition of the language (a wrong type, an overflowing constant); shows nothing
-    late     no answer in time; shows nothing
+    late     no answer, in time or at all; shows nothing
 """
 
 import argparse
@@ -29,7 +29,9 @@ from edits import Mutant, mutants
 
 KINDS = ("operator", "constant", "swapped", "uncalled", "dropped")
 LIMIT_SECONDS = 300
-FORM = re.compile(r"that can be named from here|has no field|no such field|is not in scope|unexpected")
+# What is refused, by its place in the crate: an error in a file, or a goal of the code that stays open.
+REFUSED = re.compile(r"^(?:note: )?(?:\./)?(?=\S+:\d+:\d+: )(.*)$", re.M)
+FORM = re.compile(r"that can be named from here|has no field|no such field|has no `|is not in scope|was not admitted|unexpected")
 
 
 def main() -> None:
@@ -48,13 +50,8 @@ def make_copy(copy: Path) -> None:
     """The repository with what was proved of it, so that only the changed crate is checked."""
     shutil.rmtree(copy, ignore_errors=True)
     copy.mkdir(parents=True)
-    for name in ("crates", "crates.txt"):
-        source = Path(name)
-        (shutil.copytree if source.is_dir() else shutil.copy)(source, copy / name)
-    (copy / "target").mkdir()
-    for name in ("rlib", "stamp", "inc", "log"):
-        if (Path("target") / name).is_dir():
-            shutil.copytree(Path("target") / name, copy / "target" / name)
+    shutil.copytree("crates", copy / "crates", symlinks=True)
+    shutil.copy("crates.txt", copy)
 
 
 def try_crate(copy: Path, crate: str, kinds: list[str], report: Path) -> None:
@@ -83,7 +80,7 @@ def users(copy: Path, crate: str, mutant: Mutant) -> list[str]:
     constant = re.search(r"\bconst (\w+)", mutant.before)
     if not constant:
         return []
-    order = [line.split(":")[0] for line in (copy / "crates.txt").read_text().splitlines() if ":" in line]
+    order = [line.split(":")[0].split()[0] for line in (copy / "crates.txt").read_text().splitlines() if ":" in line]
     name = re.compile(rf"\b{constant.group(1)}\b")
     above = order[order.index(crate) + 1 :]
     return [user for user in above if any(name.search(s.read_text()) for s in (copy / "crates" / user / "src").rglob("*.rt"))]
@@ -106,18 +103,20 @@ def check(copy: Path, crate: str) -> tuple[str, str]:
         return "late", f"no answer within {LIMIT_SECONDS} s"
     if status == 0:
         return "passed", ""
-    first = next((line for line in said.splitlines() if "error" in line), said.strip()[-200:])
-    place = re.sub(r"^.*?/crates/", "", first)[:200]
+    first = REFUSED.search(said)
+    place = f"{crate}/{first.group(1)}"[:200] if first else said.strip()[-200:]
+    if status != 1:
+        return "late", place
     if not re.search(r"^logic=not-proved", said, re.M) or place.startswith(f"{crate}/specs/"):
         return "unread", place
-    return ("form" if FORM.search(first) else "fact"), place
+    return ("form" if FORM.search(place) else "fact"), place
 
 
 def run_prover(copy: Path, crate: str) -> tuple[int, str]:
     """Exit status and output. Nothing that was started is left behind, whatever ends the wait."""
     pipe = subprocess.PIPE
     with subprocess.Popen(
-        ["rt", "dev", crate], cwd=copy, stdout=pipe, stderr=pipe, text=True, start_new_session=True
+        ["rt", "check"], cwd=copy / "crates" / crate, stdout=pipe, stderr=pipe, text=True, start_new_session=True
     ) as run:
         try:
             said = run.communicate(timeout=LIMIT_SECONDS)

@@ -19,7 +19,7 @@ class Readme(unittest.TestCase):
 
     def test_statement_of_the_theorem(self):
         statement = " ".join((ROOT / "crates/ledger/proofs/EveryList.antt").read_text().split())
-        block = next(text for _, text in BLOCKS if text.startswith("every-list"))
+        block = next(text for _, text in BLOCKS if text.startswith("every_list"))
         for line in block.splitlines():
             quoted = re.split(r"  +", line)[0]
             self.assertIn(quoted, statement)

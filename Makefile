@@ -1,6 +1,6 @@
 # The C and Rust side of Arznavik: the example, the host tests and the measurements, over the static
-# library that `rt staticlib host` proves and builds. `make help` lists the commands; it prints the
-# lines of this file that begin with ##.
+# library that `rt lib` in crates/host proves and builds. `make help` lists the commands; it prints
+# the lines of this file that begin with ##.
 
 ARCHIVE ?= target/staticlib/libhost.a
 # The check bit by bit, which only the measurements link.
@@ -53,18 +53,26 @@ all: $(ARCHIVE) $(OUT)/display
 help:
 	@sed -n 's/^## \{0,1\}//p' $(firstword $(MAKEFILE_LIST))
 
-# rt proves again only what has changed.
-$(patsubst %,target/staticlib/lib%.a,host bitwise_bench): target/staticlib/lib%.a: \
-		crates.txt $(shell find crates -type f)
-	$(need_rt)
-	rt staticlib $*
-	touch $@
+# What rt builds lies in the crate's out/, which `rt ci` empties of it: so copies are taken.
+SOURCES := crates.txt $(shell find crates -type f -not -path 'crates/*/out/*')
 
-$(addprefix target/bin/,replay run_cases receive_bench): target/bin/%: \
-		crates.txt $(shell find crates -type f)
+# rt proves again only what has changed.
+$(patsubst %,target/staticlib/lib%.a,host bitwise_bench): target/staticlib/lib%.a: $(SOURCES)
 	$(need_rt)
-	rt check $*
-	touch $@
+	cd crates/$* && rt lib
+	mkdir -p $(@D)
+	cp crates/$*/out/lib$*.a $@
+
+# rt runs what it has built. With no input these programs have nothing to do.
+$(addprefix target/bin/,replay run_cases receive_bench): target/bin/%: $(SOURCES)
+	$(need_rt)
+	cd crates/$* && rt run </dev/null >/dev/null
+	mkdir -p $(@D) target/obj
+	cp crates/$*/out/$*.o target/obj/$*.o
+	cp crates/$*/out/$* $@
+
+# What the programs call of the toolchain's C, where their object files are linked into others.
+RUNTIME = $(addprefix $(dir $(shell rt doc))c/,libos_c.a liblibc_c.a)
 
 $(OUT):
 	mkdir -p $@
@@ -254,7 +262,7 @@ $(FUZZ)/libreplay.a: tests/fuzz/replay.rs $(wildcard tests/fuzz/*.rs) tests/repl
 	$(call rust,$(FUZZ_COUNTERS))
 
 $(FUZZ)/replay: $(addprefix $(FUZZ)/,coverage.o replay.s replay.o libreplay.a)
-	$(CLANG) -fsanitize=fuzzer -o $@ $(INPUTS)
+	$(CLANG) -fsanitize=fuzzer -o $@ $(INPUTS) $(RUNTIME)
 
 ## make fuzz             fuzz the library and `replay`, each for FUZZ_SECONDS=60 (rustc, clang and its
 ##                       fuzzer's library, binutils)
@@ -276,17 +284,19 @@ MUTATED := refusals slices crc frame ash cutter session host packet value rows b
 EDITED := $(notdir $(wildcard tests/mutants/written/*))
 # On the contracts of `cases` no library rests that has a theorem.
 EMPTIED := $(filter-out cases,$(MUTATED))
+# $(call check,CRATES) proves crates one after the other.
+check = set -e; for crate in $(1); do (cd crates/$$crate && rt check); done
 
 ## make mutants          try small wrong programs against the prover; hours for all crates, of some:
 ##                       make mutants CRATES="crc value" (python3)
 mutants: written-edits
-	rt check $(or $(CRATES),$(MUTATED))
+	$(call check,$(or $(CRATES),$(MUTATED)))
 	tests/mutants/run.py $(OUT)/mutants $(or $(CRATES),$(MUTATED))
 
 ## make written-edits    try the written ones of them alone; CRATES as above (python3)
 written-edits:
 	$(need_rt)
-	rt check $(or $(CRATES),$(EDITED))
+	$(call check,$(or $(CRATES),$(EDITED)))
 	mkdir -p $(OUT)
 	tests/mutants/written.py $(OUT)/written $(or $(CRATES),$(EDITED))
 
@@ -294,7 +304,7 @@ written-edits:
 ##                       above (python3)
 emptied:
 	$(need_rt)
-	rt check $(or $(CRATES),$(EMPTIED)) conversation ledger answers
+	$(call check,$(or $(CRATES),$(EMPTIED)) conversation ledger answers)
 	mkdir -p $(OUT)
 	tests/mutants/emptied.py $(OUT)/emptied $(or $(CRATES),$(EMPTIED))
 
@@ -310,8 +320,9 @@ $(OUT)/library.a: $(ARCHIVE) | $(OUT)
 $(OUT)/bitwise.a: $(BITWISE) | $(OUT)
 	$(ALIGN_ARCHIVE) $< $@
 
-# With EARLIER=COMMIT the library of that commit is measured too. It is proved and built in a folder of
-# its own, where the programs that measure it stand, and its calls are renamed to earlier_..
+# With EARLIER=COMMIT the library of that commit is measured too, if this toolchain proves it. It is proved
+# and built outside the checkout, since `rt ci` refuses a second crates.txt inside; its calls are renamed to
+# earlier_.. The programs that measure it stand in a folder of their own.
 BENCH_OUT := $(OUT)
 ifdef EARLIER
 COMMIT := $(shell git rev-parse --verify --quiet '$(EARLIER)^{commit}')
@@ -324,10 +335,10 @@ RENAMED := $(foreach call,crc frame_write frame_check,--redefine-sym arznavik_$(
 $(EARLIER_ARCHIVE):
 	$(need_rt)
 	mkdir -p $(BENCH_OUT)
-	git archive $(COMMIT) | tar -x -C $(BENCH_OUT)
-	cd $(BENCH_OUT) && rt staticlib host
-	$(ALIGN_ARCHIVE) --keep-global-symbol='earlier_*' $(RENAMED) \
-		$(BENCH_OUT)/target/staticlib/libhost.a $@
+	set -e; work=$$(mktemp -d); trap 'rm -rf "$$work"' EXIT; \
+	git archive $(COMMIT) | tar -x -C "$$work"; \
+	(cd "$$work/crates/host" && rt lib); \
+	$(ALIGN_ARCHIVE) --keep-global-symbol='earlier_*' $(RENAMED) "$$work/crates/host/out/libhost.a" $@
 endif
 
 LIBRARIES := $(OUT)/library.a $(OUT)/bitwise.a $(EARLIER_ARCHIVE)
@@ -345,7 +356,7 @@ $(OUT)/%.program.o: target/bin/% | $(OUT)
 
 $(OUT)/replay_stack $(OUT)/run_cases_stack: $(OUT)/%_stack: bench/program_stack.c bench/painted.c \
 		$(HEADERS) $(OUT)/%.program.o
-	$(CC) $(BENCH_CFLAGS) -o $@ $(INPUTS)
+	$(CC) $(BENCH_CFLAGS) -o $@ $(INPUTS) $(RUNTIME)
 
 # Packets of 1 to 499,998 items: three from the line, and the others by cases.
 ITEM_HISTORIES := $(patsubst %,examples/histories/%.history,case_6 items_before_the_name items_189)

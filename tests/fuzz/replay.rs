@@ -32,6 +32,8 @@ use std::slice;
 const INPUT: i32 = 0;
 const OUTPUT: i32 = 1;
 const FAILED: isize = -1;
+/// The system's number for a device that fails. After an interrupted call the program calls again.
+const EIO: i32 = 5;
 
 /// Standard input and output of one run.
 #[derive(Default)]
@@ -53,6 +55,13 @@ thread_local! {
 extern "C" {
     fn replay_main() -> i32;
     fn coverage_start();
+    fn __errno_location() -> *mut i32;
+}
+
+/// What a call that fails answers.
+fn failed() -> isize {
+    unsafe { *__errno_location() = EIO };
+    FAILED
 }
 
 /// Whether the call that counts down here fails; it is to be the last one.
@@ -78,7 +87,7 @@ extern "C" fn replay_read(descriptor: i32, bytes: *mut u8, count: usize) -> isiz
     LINE.with_borrow_mut(|line| {
         // A piece of no bytes is read too, and a failure there loses nothing.
         if count != 0 && fails(&mut line.reads_left, "a read") {
-            return FAILED;
+            return failed();
         }
         let rest = &line.history[line.read..];
         let taken = rest.len().min(count).min(line.most);
@@ -94,7 +103,7 @@ extern "C" fn replay_write(descriptor: i32, bytes: *const u8, count: usize) -> i
     let buffer = unsafe { slice::from_raw_parts(bytes, count) };
     LINE.with_borrow_mut(|line| {
         if fails(&mut line.writes_left, "a write") {
-            return FAILED;
+            return failed();
         }
         let taken = count.min(line.most);
         line.printed.extend(&buffer[..taken]);

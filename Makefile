@@ -297,8 +297,7 @@ mutants: written-edits
 written-edits:
 	$(need_rt)
 	$(call check,$(or $(CRATES),$(EDITED)))
-	mkdir -p $(OUT)
-	tests/mutants/written.py $(OUT)/written $(or $(CRATES),$(EDITED))
+	tests/mutants/written.py --try $(or $(CRATES),$(EDITED))
 
 ## make emptied          empty the contract of each public function, and say what breaks; CRATES as
 ##                       above (python3)

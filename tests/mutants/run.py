@@ -4,7 +4,7 @@
     run.py [--kinds KIND,..] OUT CRATE..
 
 The kinds are operator, constant, swapped (two arguments), uncalled (an argument for the call) and dropped (a
-statement); all of them without --kinds. It works on a copy of the repository under OUT/work and writes
+statement); all of them without --kinds. It works on a copy of the repository outside it and writes
 OUT/CRATE.txt, a line for each mutant: verdict, file, function, kind, the line before and after, and the first
 error. A constant that its own crate does not pin down is tried in the crates above that name it. The verdicts:
 
@@ -12,7 +12,7 @@ error. A constant that its own crate does not pin down is tried in the crates ab
     form     refused: the proof names a place that the changed code does not have
     passed   proved: the contract lets it through, or it means the same
     unread   not a program or definition of the language (a wrong type, an overflowing constant); shows nothing
-    late     no answer, in time or at all; shows nothing
+    late     no answer in time, or none but that the prover met a limit or stopped; shows nothing
 """
 
 import argparse
@@ -22,16 +22,21 @@ import shutil
 import signal
 import subprocess
 import sys
+import tempfile
 from collections import Counter
+from contextlib import contextmanager
 from pathlib import Path
+from typing import Iterator
 
 from edits import Mutant, mutants
 
 KINDS = ("operator", "constant", "swapped", "uncalled", "dropped")
 LIMIT_SECONDS = 300
-# What is refused, by its place in the crate: an error in a file, or a goal of the code that stays open.
-REFUSED = re.compile(r"^(?:note: )?(?:\./)?(?=\S+:\d+:\d+: )(.*)$", re.M)
-FORM = re.compile(r"that can be named from here|has no field|no such field|has no `|is not in scope|was not admitted|unexpected")
+# The status of `rt check` where something is refused. Other ones say that there is no answer.
+NOT_PROVED = 1
+FORM = re.compile(r"that can be named from here|has no field|no such field|is not in scope|has no `|was not admitted|unexpected")
+# What rt says at a place: an error, or by `note:` a fact that is not proved.
+TOLD = re.compile(r"^(?:note: )?(?:\./)?(\S+:\d+:\d+: .*(?:\berror\b|\bnot proved\b).*)$", re.M)
 
 
 def main() -> None:
@@ -40,18 +45,23 @@ def main() -> None:
     words.add_argument("out", type=Path)
     words.add_argument("crates", nargs="+")
     asked = words.parse_args()
-    copy = asked.out / "work"
-    make_copy(copy)
-    for crate in asked.crates:
-        try_crate(copy, crate, asked.kinds.split(","), asked.out / f"{crate}.txt")
+    asked.out.mkdir(parents=True, exist_ok=True)
+    with copied() as copy:
+        for crate in asked.crates:
+            try_crate(copy, crate, asked.kinds.split(","), asked.out / f"{crate}.txt")
 
 
-def make_copy(copy: Path) -> None:
-    """The repository with what was proved of it, so that only the changed crate is checked."""
-    shutil.rmtree(copy, ignore_errors=True)
-    copy.mkdir(parents=True)
-    shutil.copytree("crates", copy / "crates", symlinks=True)
-    shutil.copy("crates.txt", copy)
+@contextmanager
+def copied() -> Iterator[Path]:
+    """A copy of the repository, gone at the end. It stands outside, where `rt ci` does not meet it, and begins with
+    what checks of the same crates on this machine kept."""
+    with tempfile.TemporaryDirectory(prefix="arznavik-") as folder:
+        copy = Path(folder)
+        shutil.copytree("crates", copy / "crates", ignore=shutil.ignore_patterns("out"))
+        for name in ("crates.txt", "HANDLES"):
+            if Path(name).is_file():
+                shutil.copy(name, copy / name)
+        yield copy
 
 
 def try_crate(copy: Path, crate: str, kinds: list[str], report: Path) -> None:
@@ -103,13 +113,13 @@ def check(copy: Path, crate: str) -> tuple[str, str]:
         return "late", f"no answer within {LIMIT_SECONDS} s"
     if status == 0:
         return "passed", ""
-    first = REFUSED.search(said)
-    place = f"{crate}/{first.group(1)}"[:200] if first else said.strip()[-200:]
-    if status != 1:
-        return "late", place
-    if not re.search(r"^logic=not-proved", said, re.M) or place.startswith(f"{crate}/specs/"):
-        return "unread", place
-    return ("form" if FORM.search(place) else "fact"), place
+    if status != NOT_PROVED:
+        return "late", said.strip()[-200:]
+    told = TOLD.search(said)
+    first = f"{crate}/{told[1]}" if told else said.strip()[-200:]
+    if not re.search(r"^logic=not-proved", said, re.M) or first.startswith(f"{crate}/specs/"):
+        return "unread", first[:200]
+    return ("form" if FORM.search(first) else "fact"), first[:200]
 
 
 def run_prover(copy: Path, crate: str) -> tuple[int, str]:

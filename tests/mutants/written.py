@@ -1,12 +1,12 @@
 #!/usr/bin/env python3
 """Tries written wrong programs against the prover: each must be refused because a fact does not hold.
 
-    written.py OUT [CRATE..]            try tests/mutants/written/CRATE/*.edit, of all crates if none is named
+    written.py --try [CRATE..]          try tests/mutants/written/CRATE/*.edit, of all crates if none is named
     written.py --apply-only [CRATE..]   only see that these edits, and those of the gate, still fit the sources
 
 An edit has the form of crates/CRATE/must-fail/*.edit: comments with #, then `file:` lines, each followed by pairs
 of an `old:` and a `new:` line. The old text stands in the file exactly once. It works on a copy of the repository
-under OUT/work. One line is printed for each edit, with a verdict of run.py; any verdict but `fact`, and an edit
+outside it. One line is printed for each edit, with a verdict of run.py; any verdict but `fact`, and an edit
 that does not fit, is a failure.
 """
 
@@ -15,7 +15,7 @@ import time
 from pathlib import Path
 from typing import Iterator, NamedTuple
 
-from run import check, make_copy
+from run import check, copied
 
 WRITTEN = Path("tests/mutants/written")
 PARTS = ("src", "specs", "proofs")
@@ -34,13 +34,13 @@ class Change(NamedTuple):
 
 
 def main() -> None:
-    words = sys.argv[1:]
-    if not words or words[0] in ("-h", "--help"):
-        sys.exit(__doc__)
-    if words[0] == "--apply-only":
-        failed = apply_only(words[1:])
-    else:
-        failed = try_all(Path(words[0]), words[1:])
+    match sys.argv[1:]:
+        case ["--apply-only", *crates]:
+            failed = apply_only(crates)
+        case ["--try", *crates]:
+            failed = try_all(crates)
+        case _:
+            sys.exit(__doc__)
     if failed:
         sys.exit(f"written edits: FAILED: {', '.join(failed)}")
 
@@ -60,14 +60,19 @@ def apply_only(crates: list[str]) -> list[str]:
     return failed if count else ["no edit found"]
 
 
-def try_all(out: Path, crates: list[str]) -> list[str]:
+def try_all(crates: list[str]) -> list[str]:
     """The edits that do not fit or are not refused at a fact."""
     asked = list(edits(crates))
     if not asked:
         print("written edits: none of these crates has one")
         return []
-    copy = out / "work"
-    make_copy(copy)
+    with copied() as copy:
+        failed = try_each(copy, asked)
+    print(f"written edits: {len(asked)} tried, {len(failed)} failed", flush=True)
+    return failed
+
+
+def try_each(copy: Path, asked: list[Path]) -> list[str]:
     failed = []
     for crate in dict.fromkeys(map(crate_of, asked)):
         verdict, error = check(copy, crate)
@@ -80,7 +85,6 @@ def try_all(out: Path, crates: list[str]) -> list[str]:
             print(f"{label_of(edit)}: {verdict}, {took:.0f} s, {error}", flush=True)
             if verdict != "fact":
                 failed.append(label_of(edit))
-    print(f"written edits: {len(asked)} tried, {len(failed)} failed", flush=True)
     return failed
 
 

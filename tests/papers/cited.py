@@ -6,7 +6,7 @@
 A citation is a place and, right behind it in backticks, names that stand there:
 
     frame/Stuffing `meaning`, `taken`     definitions, fields or cases in crates/frame/specs/Stuffing.antt
-    ledger/proofs/EveryList `every-list`  theorems in crates/ledger/proofs/EveryList.antt
+    ledger/proofs/EveryList `every_list`  theorems in crates/ledger/proofs/EveryList.antt
     packet/src/items.rt `read_items`      functions, types or constants in that file; words of a C or Rust file
     code of frame `put_byte`              the same, in any source file of the crate
     mutant of frame `put_byte`            the same, and a function or constant of the crate in docs/mutants.txt

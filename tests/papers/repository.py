@@ -17,7 +17,8 @@ def names_of(path):
         return {*names, *re.findall(r"^\s*(?:pub\s+)?(?:record|data)\s+(\S+)", text, re.M)}
     if path.suffix == ".rt":
         names = re.findall(r"\b(?:fn|struct|enum|const|mod)\s+(\w+)", text)
-        return {*names, *re.findall(r"^pub use [\w:]*::(\w+);", text, re.M)}
+        handed_on = re.findall(r"^pub use [\w:]*::(?:(\w+)|\{([^}]*)\});", text, re.M)
+        return {*names, *(word for used in handed_on for word in re.findall(r"\w+", " ".join(used)))}
     return set(re.findall(r"\w+", text))
 
 
@@ -29,10 +30,13 @@ def words_of(code):
 class Repository:
     def __init__(self, root):
         self.root = root
-        self.crates = set(re.findall(r"^(\w+):", (root / "crates.txt").read_text(), re.M))
+        self.crates = set(re.findall(r"^(\w+)[^:#\n]*:", (root / "crates.txt").read_text(), re.M))
         self.targets = set(re.findall(r"^([a-z_-]+):", (root / "Makefile").read_text(), re.M))
         self.header = set(re.findall(r"\w+", (root / "include/arznavik.h").read_text()))
-        found = [path for top in TOP for path in (root / top).rglob("*")] + list(root.iterdir())
+        # What rt keeps and builds in a crate's out/ is nothing to cite.
+        found = [path for path in root.glob("crates/*/*") if path.name != "out"]
+        found += [path for top in (*TOP, *found) if top != "crates" for path in (root / top).rglob("*")]
+        found += [*root.glob("crates/*"), *root.iterdir()]
         self.files = {path.name for path in found if path.is_file()}
         self.folders = {path.name for path in found if path.is_dir()}
         self.sources = {crate: sorted((root / "crates" / crate / "src").glob("*.rt")) for crate in self.crates}

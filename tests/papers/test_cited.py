@@ -16,7 +16,7 @@ DAMAGES = [
     ("a definition behind a comma", CLAIMS, r"(\| \w+/[A-Z]\w+ `[\w-]+`, `)([\w-]+)`", r"\1no-\2`"),
     ("a theorem", CLAIMS, r"(\w+/proofs/\w+ `)([\w-]+)`", r"\1no-\2`"),
     ("a file of definitions", CLAIMS, r"(\| \w+/)([A-Z]\w+ `)", r"\1No\2"),
-    ("a theorem of another file", CLAIMS, r"ledger/proofs/EveryList (`every-list`)", r"ledger/proofs/Streams \1"),
+    ("a theorem of another file", CLAIMS, r"ledger/proofs/EveryList (`every_list`)", r"ledger/proofs/Streams \1"),
     ("a definition of another file", CLAIMS, r"frame/(?!Answers)[A-Z]\w+ (`)", r"frame/Answers \1"),
     ("an edit", CLAIMS, r"(\| link `)(\w+)`", r"\1no_\2`"),
     ("an edit of another crate", CLAIMS, r"\| link (`\w+`)", r"| value \1"),

@@ -25,7 +25,8 @@ class Readme(unittest.TestCase):
             self.assertIn(quoted, statement)
 
     def test_order_of_the_crates(self):
-        lines = [line.split(":") for line in (ROOT / "crates.txt").read_text().splitlines()]
+        rows = [line.partition("#")[0] for line in (ROOT / "crates.txt").read_text().splitlines()]
+        lines = [(row.split()[0].removesuffix(":"), row.partition(":")[2]) for row in rows if row.strip()]
         table = TEXT.partition("| crate | what lives there |")[2].partition("\n\n")[0]
         named = [name for cell in re.findall(r"^\|([^|]*)\|", table, re.M) for name in re.findall(r"`(\w+)`", cell)]
         own = [name for name, _ in lines]

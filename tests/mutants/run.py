@@ -9,7 +9,8 @@ OUT/CRATE.txt, a line for each mutant: verdict, file, function, kind, the line b
 error. A constant that its own crate does not pin down is tried in the crates above that name it. The verdicts:
 
     fact     refused: a fact of the contract, of a law or of safety does not hold
-    form     refused: the proof names a place that the changed code does not have
+    form     refused: the proof names a place that the changed code does not have. (Where only answers do, and an index
+             or a sum is unproved beside, whose goals are named by no place, that is a fact.)
     passed   proved: the contract lets it through, or it means the same
     unread   not a program or definition of the language (a wrong type, an overflowing constant); shows nothing
     late     no answer in time, or none but that the prover met a limit or stopped; shows nothing
@@ -35,6 +36,7 @@ LIMIT_SECONDS = 300
 # The status of `rt check` where something is refused. Other ones say that there is no answer.
 NOT_PROVED = 1
 FORM = re.compile(r"that can be named from here|has no field|no such field|is not in scope|has no `|was not admitted|unexpected")
+SAFETY = re.compile(r"it is not proved that .*\(`(?:bounds|overflow)[-_]")
 # What rt says at a place: an error, or by `note:` a fact that is not proved.
 TOLD = re.compile(r"^(?:note: )?(?:\./)?(\S+:\d+:\d+: .*(?:\berror\b|\bnot proved\b).*)$", re.M)
 
@@ -115,11 +117,17 @@ def check(copy: Path, crate: str) -> tuple[str, str]:
         return "passed", ""
     if status != NOT_PROVED:
         return "late", said.strip()[-200:]
-    told = TOLD.search(said)
-    first = f"{crate}/{told[1]}" if told else said.strip()[-200:]
+    told = [f"{crate}/{line}" for line in TOLD.findall(said)] or [said.strip()[-200:]]
+    first = told[0][:200]
     if not re.search(r"^logic=not-proved", said, re.M) or first.startswith(f"{crate}/specs/"):
-        return "unread", first[:200]
-    return ("form" if FORM.search(first) else "fact"), first[:200]
+        return "unread", first
+    of_form = [line for line in told if FORM.search(line)]
+    if told[0] not in of_form:
+        return "fact", first
+    unsafe = next((line for line in told if SAFETY.search(line)), None)
+    if unsafe and all("/Answers.antt:" in line for line in of_form):
+        return "fact", unsafe[:200]
+    return "form", first
 
 
 def run_prover(copy: Path, crate: str) -> tuple[int, str]:

@@ -12,61 +12,61 @@ use cases::{line, print};
 // The longest output that is lent.
 const OUTPUT_MAX: usize = 80;
 
-pub fn run(line: &[u8], bytes: &[u8]) {
+pub fn run(rt: &impl Print, line: &[u8], bytes: &[u8]) {
     let mut output = [0xeeu8; OUTPUT_MAX];
-    run_lending(line, bytes, &mut output);
+    run_lending(rt, line, bytes, &mut output);
 }
 
-fn run_lending(line: &[u8], bytes: &[u8], out: &mut [u8]) {
+fn run_lending(rt: &impl Print, line: &[u8], bytes: &[u8], out: &mut [u8]) {
     if bytes.len() == 0 {
-        line::not_run(line, b"too few bytes");
+        line::not_run(rt, line, b"too few bytes");
         return;
     }
     let room = bytes[0] as usize;
     if out.len() < room {
-        line::not_run(line, b"too long an output");
+        line::not_run(rt, line, b"too long an output");
         return;
     }
-    run_case(line, &bytes[1..], &mut out[..room]);
+    run_case(rt, line, &bytes[1..], &mut out[..room]);
 }
 
-fn run_case(line: &[u8], bytes: &[u8], out: &mut [u8]) {
+fn run_case(rt: &impl Print, line: &[u8], bytes: &[u8], out: &mut [u8]) {
     let key = line::key(line);
     match key {
-        b'w' => show_written(line, bytes, out),
-        b'r' => show_read(line, bytes, out),
-        _ => line::not_run(line, b"no such key"),
+        b'w' => show_written(rt, line, bytes, out),
+        b'r' => show_read(rt, line, bytes, out),
+        _ => line::not_run(rt, line, b"no such key"),
     }
 }
 
-fn show_written(line: &[u8], bytes: &[u8], out: &mut [u8]) {
+fn show_written(rt: &impl Print, line: &[u8], bytes: &[u8], out: &mut [u8]) {
     if bytes.len() == 0 {
-        line::not_run(line, b"too few bytes");
+        line::not_run(rt, line, b"too few bytes");
         return;
     }
-    line::label(line);
+    line::label(rt, line);
     let written = ash::writer::write_frame(bytes[0], &bytes[1..], out);
     match written {
-        Written::Length(length) => print::number(b": length ", length as u64),
-        Written::Refused(refusal) => print::number(b": refused ", refusal as u64),
+        Written::Length(length) => print::number(rt, b": length ", length as u64),
+        Written::Refused(refusal) => print::number(rt, b": refused ", refusal as u64),
     }
-    show_output(out);
+    show_output(rt, out);
 }
 
-fn show_read(line: &[u8], bytes: &[u8], out: &mut [u8]) {
-    line::label(line);
+fn show_read(rt: &impl Print, line: &[u8], bytes: &[u8], out: &mut [u8]) {
+    line::label(rt, line);
     let read = ash::reader::read_frame(bytes, out);
     match read {
         FrameRead::Frame { control, length } => {
-            print::number(b": control ", control as u64);
-            print::number(b" length ", length as u64);
+            print::number(rt, b": control ", control as u64);
+            print::number(rt, b" length ", length as u64);
         }
-        FrameRead::Refused(refusal) => print::number(b": refused ", refusal as u64),
+        FrameRead::Refused(refusal) => print::number(rt, b": refused ", refusal as u64),
     }
-    show_output(out);
+    show_output(rt, out);
 }
 
-fn show_output(out: &[u8]) {
-    print::bytes(b" ", out, out.len());
-    print::text(b"\n");
+fn show_output(rt: &impl Print, out: &[u8]) {
+    print::bytes(rt, b" ", out, out.len());
+    print::text(rt, b"\n");
 }

@@ -3,33 +3,33 @@ use board::{Answer, Listed};
 use cases::{line, print};
 use rows::Board;
 
-pub(crate) fn show_list(line: &[u8], fields: &[u8]) {
-    line::label(line);
+pub(crate) fn show_list(rt: &impl Print, line: &[u8], fields: &[u8]) {
+    line::label(rt, line);
     let watched = board::watch_list(fields);
     let answer = watched.answer;
     match answer {
-        Listed::Accepted => print::text(b": accepted"),
-        Listed::Refused(number) => print::number(b": refused ", number as u64),
+        Listed::Accepted => print::text(rt, b": accepted"),
+        Listed::Refused(number) => print::number(rt, b": refused ", number as u64),
     }
-    print::text(b"\n");
-    reports::rows(watched.board);
+    print::text(rt, b"\n");
+    reports::rows(rt, watched.board);
 }
 
 // What the packet does to a board that was updated one tick ago.
-pub(crate) fn show_reading(line: &[u8], packet: &[u8]) {
-    line::label(line);
+pub(crate) fn show_reading(rt: &impl Print, line: &[u8], packet: &[u8]) {
+    line::label(rt, line);
     let reading = board::read(rows::tick(updated()), packet);
     let answer = reading.answer;
     match answer {
         Answer::Updated { row, id } => {
-            print::number(b": row ", row as u64);
-            print::number(b" id ", id as u64);
+            print::number(rt, b": row ", row as u64);
+            print::number(rt, b" id ", id as u64);
         }
-        Answer::EndMark { id } => print::number(b": end mark, id ", id as u64),
-        Answer::Refused(number) => print::number(b": refused ", number as u64),
+        Answer::EndMark { id } => print::number(rt, b": end mark, id ", id as u64),
+        Answer::Refused(number) => print::number(rt, b": refused ", number as u64),
     }
-    print::text(b"\n");
-    reports::rows(reading.board);
+    print::text(rt, b"\n");
+    reports::rows(rt, reading.board);
 }
 
 // A board that watches h1 and h2, of which h1 has had the update of case 6.

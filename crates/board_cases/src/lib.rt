@@ -12,38 +12,38 @@ use cases::{line, print};
 use rows::Board;
 use value::Value;
 
-pub fn run(line: &[u8], bytes: &[u8]) {
+pub fn run(rt: &impl Print, line: &[u8], bytes: &[u8]) {
     let key = line::key(line);
     match key {
-        b'v' => show_value(line, bytes),
-        b'w' => show_list(line, bytes),
-        b'r' => show_reading(line, bytes),
-        b't' => show_board(line, ticked(updated(), line::number(bytes))),
-        b'u' => show_board(line, case_6(ticked(updated(), line::number(bytes)))),
-        _ => line::not_run(line, b"no such key"),
+        b'v' => show_value(rt, line, bytes),
+        b'w' => show_list(rt, line, bytes),
+        b'r' => show_reading(rt, line, bytes),
+        b't' => show_board(rt, line, ticked(updated(), line::number(bytes))),
+        b'u' => show_board(rt, line, case_6(ticked(updated(), line::number(bytes)))),
+        _ => line::not_run(rt, line, b"no such key"),
     }
 }
 
-fn show_value(line: &[u8], bytes: &[u8]) {
+fn show_value(rt: &impl Print, line: &[u8], bytes: &[u8]) {
     if bytes.len() == 0 {
-        line::not_run(line, b"too few bytes");
+        line::not_run(rt, line, b"too few bytes");
         return;
     }
-    line::label(line);
+    line::label(rt, line);
     let value = value::read_value(bytes[0], &bytes[1..]);
     match value {
-        Value::Number(number) => show_number(number),
-        Value::Bad => print::text(b" bad\n"),
+        Value::Number(number) => show_number(rt, number),
+        Value::Bad => print::text(rt, b" bad\n"),
     }
 }
 
-fn show_number(number: i64) {
+fn show_number(rt: &impl Print, number: i64) {
     if number < 0 {
-        print::number(b" -", value::magnitude(number));
+        print::number(rt, b" -", value::magnitude(number));
     } else {
-        print::number(b" ", value::magnitude(number));
+        print::number(rt, b" ", value::magnitude(number));
     }
-    print::text(b"\n");
+    print::text(rt, b"\n");
 }
 
 fn ticked(board: Board, ticks: u64) -> Board {
@@ -56,8 +56,8 @@ fn ticked(board: Board, ticks: u64) -> Board {
     next
 }
 
-fn show_board(line: &[u8], board: Board) {
-    line::label(line);
-    print::text(b"\n");
-    reports::rows(board);
+fn show_board(rt: &impl Print, line: &[u8], board: Board) {
+    line::label(rt, line);
+    print::text(rt, b"\n");
+    reports::rows(rt, board);
 }

@@ -6,7 +6,7 @@ use Prim.Native.Nat.{ℕ, suc, ◌+◌, ◌≤◌, min}
 use native.Mathlib.Omega.{arith}
 use lib.ListN.{length, set, length-set}
 use lib.Seq.{length-take-le}
-use Rattle.io.specs.Counts.{IsPrefixLen}
+use Rattle.cases.specs.Counts.{IsPrefixLen}
 use Rattle.slices.specs.Put.{put_at}
 use Rattle.slices.proofs.PutLaws.{put_out}
 

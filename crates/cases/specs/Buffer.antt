@@ -1,6 +1,6 @@
 -- A lent buffer as text: its bytes in hexadecimal up to and with the last one that a call has touched.
 use Rattle.std.specs.Prelude.{ℕ, suc, cond, List, [], ◌∷◌, eqb}
-use Rattle.io.specs.Digits.{last_digits}
+use Rattle.cases.specs.Digits.{last_digits}
 use Rattle.slices.specs.Each.{each}
 
 -- two digits for each byte

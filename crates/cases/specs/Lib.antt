@@ -1,2 +1,4 @@
 pub mod Buffer
+pub mod Counts
+pub mod Digits
 pub mod Line

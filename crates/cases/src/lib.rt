@@ -8,5 +8,6 @@
 // colon. Behind it stands each byte of the case: a space and two hexadecimal digits, or a space, a
 // quote and the byte itself.
 pub mod buffer;
+pub mod input;
 pub mod line;
 pub mod print;

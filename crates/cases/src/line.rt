@@ -1,6 +1,6 @@
 // The parts of a case's line.
 ghost use Rattle.std.specs.Prelude.{◌≡◌, ◌+◌, ◌≤◌, ◌<◌, min, length};
-ghost use Rattle.io.specs.Counts.{IsPrefixLen};
+ghost use Rattle.cases.specs.Counts.{IsPrefixLen};
 ghost use Rattle.slices.specs.Put.{put_at};
 ghost use Rattle.cases.specs.Line.{until, line_at, key_of, digit_of, byte_of, case_bytes, with_byte, number_from};
 
@@ -48,21 +48,21 @@ pub fn key(line: &[u8]) -> u8
 }
 
 // Prints the label of a line. No contract can say what is written.
-pub fn label(line: &[u8]) {
+pub fn label(rt: &impl Print, line: &[u8]) {
     let end = find(line, b':');
     if end < 2 {
         return;
     }
-    print::text(&line[2..end]);
+    print::text(rt, &line[2..end]);
 }
 
 // Says that the case of a line is not run, and why. No contract can say what is written.
-pub fn not_run(line: &[u8], why: &[u8]) {
-    print::text(b"not run, ");
-    print::text(why);
-    print::text(b": ");
-    label(line);
-    print::text(b"\n");
+pub fn not_run(rt: &impl Print, line: &[u8], why: &[u8]) {
+    print::text(rt, b"not run, ");
+    print::text(rt, why);
+    print::text(rt, b": ");
+    label(rt, line);
+    print::text(rt, b"\n");
 }
 
 // Puts the bytes of a line at the start of a lent buffer, and answers how many they are. Of bytes

@@ -11,59 +11,65 @@ use cutter::state::{Answer, Cut, Cutter};
 // The longest buffer that is lent.
 const FRAME_ROOM: usize = 80;
 
-pub fn run(state: Cutter, line: &[u8], bytes: &[u8]) -> Cutter {
+pub fn run(rt: &impl Print, state: Cutter, line: &[u8], bytes: &[u8]) -> Cutter {
     let key = line::key(line);
     match key {
         b'n' => cutter::fresh(),
-        b'p' => give(state, line, bytes),
-        _ => no_key(state, line),
+        b'p' => give(rt, state, line, bytes),
+        _ => no_key(rt, state, line),
     }
 }
 
-fn no_key(state: Cutter, line: &[u8]) -> Cutter {
-    line::not_run(line, b"no such key");
+fn no_key(rt: &impl Print, state: Cutter, line: &[u8]) -> Cutter {
+    line::not_run(rt, line, b"no such key");
     state
 }
 
-fn give(state: Cutter, line: &[u8], bytes: &[u8]) -> Cutter {
+fn give(rt: &impl Print, state: Cutter, line: &[u8], bytes: &[u8]) -> Cutter {
     let mut frame = [UNTOUCHED; FRAME_ROOM];
-    give_lending(state, line, bytes, &mut frame)
+    give_lending(rt, state, line, bytes, &mut frame)
 }
 
-fn give_lending(state: Cutter, line: &[u8], bytes: &[u8], frame: &mut [u8]) -> Cutter {
+fn give_lending(
+    rt: &impl Print,
+    state: Cutter,
+    line: &[u8],
+    bytes: &[u8],
+    frame: &mut [u8],
+) -> Cutter {
     if bytes.len() == 0 {
-        line::not_run(line, b"too few bytes");
+        line::not_run(rt, line, b"too few bytes");
         return state;
     }
     let room = bytes[0] as usize;
     if frame.len() < room {
-        line::not_run(line, b"too long a buffer");
+        line::not_run(rt, line, b"too long a buffer");
         return state;
     }
-    cut(state, line, &bytes[1..], &mut frame[..room])
+    cut(rt, state, line, &bytes[1..], &mut frame[..room])
 }
 
-fn cut(state: Cutter, line: &[u8], piece: &[u8], frame: &mut [u8]) -> Cutter {
+fn cut(rt: &impl Print, state: Cutter, line: &[u8], piece: &[u8], frame: &mut [u8]) -> Cutter {
     let brought = cutter::cut(state, piece, frame);
-    line::label(line);
-    show(brought);
-    print::lent(b" ", frame);
-    print::text(b"\n");
+    line::label(rt, line);
+    show(rt, brought);
+    print::lent(rt, b" ", frame);
+    print::text(rt, b"\n");
     brought.cutter
 }
 
-fn show(brought: Cut) {
+fn show(rt: &impl Print, brought: Cut) {
     let taken = brought.taken as u64;
     let answer = brought.answer;
     match answer {
         Answer::Refused(refusal) => {
-            print::number(b": refused ", refusal as u64);
-            print::number(b" taken ", taken);
+            print::number(rt, b": refused ", refusal as u64);
+            print::number(rt, b" taken ", taken);
         }
-        Answer::Nothing => print::number(b": taken ", taken),
+        Answer::Nothing => print::number(rt, b": taken ", taken),
         Answer::Frame(length) => {
-            print::number(b": taken ", taken);
-            print::number(b" frame ", length as u64);
+            print::number(rt, b": taken ", taken);
+            print::number(rt, b" frame ", length as u64);
         }
     }
 }

@@ -7,62 +7,74 @@ use frame::PAYLOAD_MAX;
 use link::receiver::REPLY_ROOM;
 
 // Calls with a reply buffer, then with a packet buffer that is a byte too short.
-pub(crate) fn short_buffers(display: Display, piece: &[u8]) -> Display {
+pub(crate) fn short_buffers(rt: &impl Print, display: Display, piece: &[u8]) -> Display {
     let mut reply = [0u8; REPLY_ROOM];
     let mut packet = [0u8; PAYLOAD_MAX];
     let mut short_reply = [0u8; REPLY_ROOM - 1];
     let mut short_packet = [0u8; PAYLOAD_MAX - 1];
-    let next = call(display, piece, &mut short_reply, &mut packet);
-    call(next, piece, &mut reply, &mut short_packet)
+    let next = call(rt, display, piece, &mut short_reply, &mut packet);
+    call(rt, next, piece, &mut reply, &mut short_packet)
 }
 
-fn call(display: Display, piece: &[u8], reply: &mut [u8], packet: &mut [u8]) -> Display {
+fn call(
+    rt: &impl Print,
+    display: Display,
+    piece: &[u8],
+    reply: &mut [u8],
+    packet: &mut [u8],
+) -> Display {
     let received = display::receive(display, piece, reply, packet);
     let answer = received.answer;
-    show_answer(received.taken, answer, reply, packet);
+    show_answer(rt, received.taken, answer, reply, packet);
     received.display
 }
 
-pub(crate) fn show_answer(taken: usize, answer: Answer, reply: &[u8], packet: &[u8]) {
-    print::number(b"taken ", taken as u64);
+pub(crate) fn show_answer(
+    rt: &impl Print,
+    taken: usize,
+    answer: Answer,
+    reply: &[u8],
+    packet: &[u8],
+) {
+    print::number(rt, b"taken ", taken as u64);
     match answer {
-        Answer::Nothing => print::text(b" nothing"),
+        Answer::Nothing => print::text(rt, b" nothing"),
         Answer::Refused { number, place } => {
-            print::number(b" refused ", number as u64);
-            print::number(b" place ", place as u64);
+            print::number(rt, b" refused ", number as u64);
+            print::number(rt, b" place ", place as u64);
         }
-        Answer::Heard(sequence) => print::number(b" heard ", sequence as u64),
-        Answer::Again(length) => print::bytes(b" again reply ", reply, length),
+        Answer::Heard(sequence) => print::number(rt, b" heard ", sequence as u64),
+        Answer::Again(length) => print::bytes(rt, b" again reply ", reply, length),
         Answer::New {
             reply: reply_length,
             packet: packet_length,
             reading,
         } => {
-            print::bytes(b" new reply ", reply, reply_length);
-            print::bytes(b" packet ", packet, packet_length);
-            show_reading(reading);
+            print::bytes(rt, b" new reply ", reply, reply_length);
+            print::bytes(rt, b" packet ", packet, packet_length);
+            show_reading(rt, reading);
         }
     }
-    print::text(b"\n");
+    print::text(rt, b"\n");
 }
 
-fn show_reading(reading: board::Answer) {
+fn show_reading(rt: &impl Print, reading: board::Answer) {
     match reading {
         board::Answer::Updated { row, id } => {
-            print::number(b" row ", row as u64);
-            print::number(b" id ", id as u64);
+            print::number(rt, b" row ", row as u64);
+            print::number(rt, b" id ", id as u64);
         }
-        board::Answer::EndMark { id } => print::number(b" end mark, id ", id as u64),
-        board::Answer::Refused(number) => print::number(b" unread ", number as u64),
+        board::Answer::EndMark { id } => print::number(rt, b" end mark, id ", id as u64),
+        board::Answer::Refused(number) => print::number(rt, b" unread ", number as u64),
     }
 }
 
 // Prints the counts, then the rows that have a name, and answers the display as it was.
-pub fn show_display(display: Display) -> Display
+pub fn show_display(rt: &impl Print, display: Display) -> Display
     ensures { result ≡ display }
 {
     let link = display.link;
-    reports::counts(link.counts);
-    reports::rows(display.board);
+    reports::counts(rt, link.counts);
+    reports::rows(rt, display.board);
     display
 }

@@ -8,26 +8,26 @@ use history::lines::LINE_MAX;
 use link::counts::Counts;
 use rows::Board;
 
-pub(crate) fn compare(display: Display, stream: &[u8]) -> Display {
+pub(crate) fn compare(rt: &impl Print, display: Display, stream: &[u8]) -> Display {
     let before = Passed { display, check: 0 };
-    let passed = pass(before, stream, true);
-    show_display(passed.display);
+    let passed = pass(rt, before, stream, true);
+    show_display(rt, passed.display);
     let whole = total(passed);
-    print::number(b"check ", whole as u64);
-    print::number(b"\ncuts ", stream.len() as u64 + 1);
-    print::number(b" alike ", alike(before, stream, whole) as u64);
-    let same = byte_by_byte(before, stream) == whole;
-    print::number(b"\nbyte by byte alike ", same as u64);
-    print::text(b"\n");
+    print::number(rt, b"check ", whole as u64);
+    print::number(rt, b"\ncuts ", stream.len() as u64 + 1);
+    print::number(rt, b" alike ", alike(rt, before, stream, whole) as u64);
+    let same = byte_by_byte(rt, before, stream) == whole;
+    print::number(rt, b"\nbyte by byte alike ", same as u64);
+    print::text(rt, b"\n");
     passed.display
 }
 
 // At how many places a cut gives what the whole stream gives.
-fn alike(before: Passed, stream: &[u8], whole: u16) -> usize {
+fn alike(rt: &impl Print, before: Passed, stream: &[u8], whole: u16) -> usize {
     let mut count: usize = 0;
     let mut place: usize = 0;
     while place <= stream.len() {
-        if cut_at(before, stream, place) == whole {
+        if cut_at(rt, before, stream, place) == whole {
             count += 1;
         }
         place += 1;
@@ -36,20 +36,20 @@ fn alike(before: Passed, stream: &[u8], whole: u16) -> usize {
 }
 
 // The stream in two pieces. A place past the end leaves the stream out.
-fn cut_at(before: Passed, stream: &[u8], place: usize) -> u16 {
+fn cut_at(rt: &impl Print, before: Passed, stream: &[u8], place: usize) -> u16 {
     if stream.len() < place {
         return total(before);
     }
-    let first = pass(before, &stream[..place], false);
-    total(pass(first, &stream[place..], false))
+    let first = pass(rt, before, &stream[..place], false);
+    total(pass(rt, first, &stream[place..], false))
 }
 
-fn byte_by_byte(before: Passed, stream: &[u8]) -> u16 {
+fn byte_by_byte(rt: &impl Print, before: Passed, stream: &[u8]) -> u16 {
     let mut passed = before;
     let mut i: usize = 0;
     while i < stream.len() {
         let end = i + 1;
-        passed = pass(passed, &stream[i..end], false);
+        passed = pass(rt, passed, &stream[i..end], false);
         i = end;
     }
     total(passed)

@@ -33,41 +33,41 @@ pub fn fresh_display() -> Display
 }
 
 // Feeds a whole stream and prints each answer.
-pub(crate) fn feed(display: Display, stream: &[u8]) -> Display {
-    let passed = pass(Passed { display, check: 0 }, stream, true);
+pub(crate) fn feed(rt: &impl Print, display: Display, stream: &[u8]) -> Display {
+    let passed = pass(rt, Passed { display, check: 0 }, stream, true);
     passed.display
 }
 
 // At most so many zeros: one more than the longest content.
 const ZEROS_MAX: u64 = CONTENT_MAX as u64 + 1;
 
-pub(crate) fn feed_zeros(display: Display, line: &[u8], count: u64) -> Display {
+pub(crate) fn feed_zeros(rt: &impl Print, display: Display, line: &[u8], count: u64) -> Display {
     let zeros = [0u8; ZEROS_MAX as usize];
     if ZEROS_MAX < count {
-        line::not_run(line, b"too many zeros");
+        line::not_run(rt, line, b"too many zeros");
         return display;
     }
     let end = count as usize;
-    feed(display, &zeros[..end])
+    feed(rt, display, &zeros[..end])
 }
 
 // The same acknowledgement many times, with no answer printed.
-pub(crate) fn feed_acknowledgements(display: Display, count: u64) -> Display {
+pub(crate) fn feed_acknowledgements(rt: &impl Print, display: Display, count: u64) -> Display {
     let mut passed = Passed { display, check: 0 };
     let mut i: u64 = 0;
     while i < count {
-        passed = pass(passed, b"\x7e\x02\x01\x6b\x4c\x7e", false);
+        passed = pass(rt, passed, b"\x7e\x02\x01\x6b\x4c\x7e", false);
         i += 1;
     }
     passed.display
 }
 
 // Feeds a whole stream; `shown` says whether the answers are printed.
-pub(crate) fn pass(before: Passed, stream: &[u8], shown: bool) -> Passed {
+pub(crate) fn pass(rt: &impl Print, before: Passed, stream: &[u8], shown: bool) -> Passed {
     let mut passed = before;
     let mut at: usize = 0;
     while at < stream.len() {
-        let call = take_piece(passed, &stream[at..], shown);
+        let call = take_piece(rt, passed, &stream[at..], shown);
         passed = call.passed;
         at += call.taken;
     }
@@ -76,7 +76,7 @@ pub(crate) fn pass(before: Passed, stream: &[u8], shown: bool) -> Passed {
 
 // One call with buffers of the least size; they count where it brought a frame. The contract says how
 // many bytes it takes, and no more: the loop needs that to end.
-fn take_piece(before: Passed, piece: &[u8], shown: bool) -> Call
+fn take_piece(rt: &impl Print, before: Passed, piece: &[u8], shown: bool) -> Call
     ensures { Takes piece.now result.taken }
 {
     let mut reply = [0u8; REPLY_ROOM];
@@ -86,7 +86,7 @@ fn take_piece(before: Passed, piece: &[u8], shown: bool) -> Call
     let answer = received.answer;
     let check = marked(before.check, answer, &reply, &packet);
     if shown {
-        show_answer(received.taken, answer, &reply, &packet);
+        show_answer(rt, received.taken, answer, &reply, &packet);
     }
     let next = received.display;
     Call {

@@ -18,30 +18,30 @@ use cases::{line, print};
 use display::Display;
 pub use feeding::fresh_display;
 
-pub fn run(display: Display, line: &[u8], bytes: &[u8]) -> Display {
+pub fn run(rt: &impl Print, display: Display, line: &[u8], bytes: &[u8]) -> Display {
     let key = line::key(line);
     match key {
-        b's' => start(line),
-        b'f' => feeding::feed(display, bytes),
-        b'z' => feeding::feed_zeros(display, line, line::number(bytes)),
-        b'a' => feeding::feed_acknowledgements(display, line::number(bytes)),
+        b's' => start(rt, line),
+        b'f' => feeding::feed(rt, display, bytes),
+        b'z' => feeding::feed_zeros(rt, display, line, line::number(bytes)),
+        b'a' => feeding::feed_acknowledgements(rt, display, line::number(bytes)),
         b't' => display::tick(display),
-        b'b' => calls::short_buffers(display, bytes),
-        b'c' => calls::show_display(display),
-        b'k' => cuts::compare(display, bytes),
-        b'd' | b'o' => sending::run_event(display, line, bytes),
-        b'h' => sending::show_sender(display),
-        _ => no_key(display, line),
+        b'b' => calls::short_buffers(rt, display, bytes),
+        b'c' => calls::show_display(rt, display),
+        b'k' => cuts::compare(rt, display, bytes),
+        b'd' | b'o' => sending::run_event(rt, display, line, bytes),
+        b'h' => sending::show_sender(rt, display),
+        _ => no_key(rt, display, line),
     }
 }
 
-fn no_key(display: Display, line: &[u8]) -> Display {
-    line::not_run(line, b"no such key");
+fn no_key(rt: &impl Print, display: Display, line: &[u8]) -> Display {
+    line::not_run(rt, line, b"no such key");
     display
 }
 
-fn start(line: &[u8]) -> Display {
-    line::label(line);
-    print::text(b"\n");
+fn start(rt: &impl Print, line: &[u8]) -> Display {
+    line::label(rt, line);
+    print::text(rt, b"\n");
     fresh_display()
 }

@@ -12,78 +12,90 @@ const OUTPUT_MAX: usize = 800;
 // The first two bytes are the length of the lent output, high byte first.
 const ROOM_SIZE: usize = 2;
 
-pub(crate) fn run_event(display: Display, line: &[u8], bytes: &[u8]) -> Display {
+pub(crate) fn run_event(rt: &impl Print, display: Display, line: &[u8], bytes: &[u8]) -> Display {
     let mut output = [UNTOUCHED; OUTPUT_MAX];
-    lend_output(display, line, bytes, &mut output)
+    lend_output(rt, display, line, bytes, &mut output)
 }
 
-fn lend_output(display: Display, line: &[u8], bytes: &[u8], output: &mut [u8]) -> Display {
+fn lend_output(
+    rt: &impl Print,
+    display: Display,
+    line: &[u8],
+    bytes: &[u8],
+    output: &mut [u8],
+) -> Display {
     if bytes.len() < ROOM_SIZE {
-        line::not_run(line, b"too few bytes");
+        line::not_run(rt, line, b"too few bytes");
         return display;
     }
     let room = slices::pair(bytes[0], bytes[1]) as usize;
     if output.len() < room {
-        line::not_run(line, b"too long an output");
+        line::not_run(rt, line, b"too long an output");
         return display;
     }
-    take_event(display, line, &bytes[ROOM_SIZE..], &mut output[..room])
+    take_event(rt, display, line, &bytes[ROOM_SIZE..], &mut output[..room])
 }
 
-fn take_event(display: Display, line: &[u8], payload: &[u8], output: &mut [u8]) -> Display {
+fn take_event(
+    rt: &impl Print,
+    display: Display,
+    line: &[u8],
+    payload: &[u8],
+    output: &mut [u8],
+) -> Display {
     let key = line::key(line);
     match key {
-        b'd' => shown(display::send(display, payload, output), output),
-        _ => shown(display::timeout(display, output), output),
+        b'd' => shown(rt, display::send(display, payload, output), output),
+        _ => shown(rt, display::timeout(display, output), output),
     }
 }
 
 // Prints what an event gave, and the whole lent output; the display after it.
-fn shown(sent: Outgoing, output: &[u8]) -> Display
+fn shown(rt: &impl Print, sent: Outgoing, output: &[u8]) -> Display
     ensures { result ≡ sent.display }
 {
     let answer = sent.answer;
-    show_answer(answer);
-    print::lent(b" ", output);
-    print::text(b"\n");
+    show_answer(rt, answer);
+    print::lent(rt, b" ", output);
+    print::text(rt, b"\n");
     sent.display
 }
 
-fn show_answer(answer: Answer) {
+fn show_answer(rt: &impl Print, answer: Answer) {
     match answer {
-        Answer::Nothing => print::text(b"nothing"),
-        Answer::Refused(number) => print::number(b"refused ", number as u64),
-        Answer::Sent { sequence, length } => show_frame(b"sent ", sequence, length),
-        Answer::Repeated { sequence, length } => show_frame(b"repeated ", sequence, length),
-        Answer::Dropped(sequence) => print::number(b"dropped ", sequence as u64),
+        Answer::Nothing => print::text(rt, b"nothing"),
+        Answer::Refused(number) => print::number(rt, b"refused ", number as u64),
+        Answer::Sent { sequence, length } => show_frame(rt, b"sent ", sequence, length),
+        Answer::Repeated { sequence, length } => show_frame(rt, b"repeated ", sequence, length),
+        Answer::Dropped(sequence) => print::number(rt, b"dropped ", sequence as u64),
     }
 }
 
-fn show_frame(label: &[u8], sequence: u8, length: usize) {
-    print::number(label, sequence as u64);
-    print::number(b" length ", length as u64);
+fn show_frame(rt: &impl Print, label: &[u8], sequence: u8, length: usize) {
+    print::number(rt, label, sequence as u64);
+    print::number(rt, b" length ", length as u64);
 }
 
 // Prints the sequence of the next frame and the frame that is held; the display as it was.
-pub(crate) fn show_sender(display: Display) -> Display
+pub(crate) fn show_sender(rt: &impl Print, display: Display) -> Display
     ensures { result ≡ display }
 {
     let sender = display.sender;
     let held = sender.held;
-    print::number(b"next ", sender.next as u64);
+    print::number(rt, b"next ", sender.next as u64);
     match held {
-        Held::Nothing => print::text(b" held nothing"),
+        Held::Nothing => print::text(rt, b" held nothing"),
         Held::Frame { sequence, repeats } => {
-            print::number(b" held ", sequence as u64);
-            print::number(b" repeats ", repeats as u64);
-            show_payload(sender.payload);
+            print::number(rt, b" held ", sequence as u64);
+            print::number(rt, b" repeats ", repeats as u64);
+            show_payload(rt, sender.payload);
         }
     }
-    print::text(b"\n");
+    print::text(rt, b"\n");
     display
 }
 
-fn show_payload(payload: Payload) {
+fn show_payload(rt: &impl Print, payload: Payload) {
     let bytes = payload.bytes;
-    print::hex(b" payload ", slices::first(&bytes, payload.length));
+    print::hex(rt, b" payload ", slices::first(&bytes, payload.length));
 }

@@ -12,42 +12,42 @@ mod requests;
 
 use cases::{line, print};
 
-pub fn run(line: &[u8], bytes: &[u8]) {
+pub fn run(rt: &impl Print, line: &[u8], bytes: &[u8]) {
     let key = line::key(line);
     match key {
-        b'p' => packets::show(line, bytes),
-        b'k' => show_look(line, bytes),
-        b'e' => long::show(line, bytes),
-        b'n' => show_name(bytes),
-        b'l' => show_location(bytes),
-        b'g' | b'f' | b'o' | b'd' | b's' => requests::show(line, bytes),
-        _ => line::not_run(line, b"no such key"),
+        b'p' => packets::show(rt, line, bytes),
+        b'k' => show_look(rt, line, bytes),
+        b'e' => long::show(rt, line, bytes),
+        b'n' => show_name(rt, bytes),
+        b'l' => show_location(rt, bytes),
+        b'g' | b'f' | b'o' | b'd' | b's' => requests::show(rt, line, bytes),
+        _ => line::not_run(rt, line, b"no such key"),
     }
 }
 
-fn show_look(line: &[u8], bytes: &[u8]) {
+fn show_look(rt: &impl Print, line: &[u8], bytes: &[u8]) {
     if bytes.len() == 0 {
-        line::not_run(line, b"too few bytes");
+        line::not_run(rt, line, b"too few bytes");
         return;
     }
-    packets::show_look(line, &bytes[1..], bytes[0]);
+    packets::show_look(rt, line, &bytes[1..], bytes[0]);
 }
 
-fn show_name(bytes: &[u8]) {
-    print::text(b"name ");
-    print::text(bytes);
-    show_answer(packet::valid_name(bytes));
+fn show_name(rt: &impl Print, bytes: &[u8]) {
+    print::text(rt, b"name ");
+    print::text(rt, bytes);
+    show_answer(rt, packet::valid_name(bytes));
 }
 
-fn show_location(bytes: &[u8]) {
-    print::number(b"location of ", bytes.len() as u64);
-    show_answer(packet::valid_location(bytes));
+fn show_location(rt: &impl Print, bytes: &[u8]) {
+    print::number(rt, b"location of ", bytes.len() as u64);
+    show_answer(rt, packet::valid_location(bytes));
 }
 
-fn show_answer(answer: bool) {
+fn show_answer(rt: &impl Print, answer: bool) {
     if answer {
-        print::text(b": yes\n");
+        print::text(rt, b": yes\n");
     } else {
-        print::text(b": no\n");
+        print::text(rt, b": no\n");
     }
 }

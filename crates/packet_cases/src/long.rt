@@ -13,9 +13,9 @@ const LONG_ROOM: usize = 0x100000;
 const SIZE_END: usize = 5;
 
 // What a look answers of such a packet, and what the functions that answer one thing alone do.
-pub(crate) fn show(line: &[u8], bytes: &[u8]) {
+pub(crate) fn show(rt: &impl Print, line: &[u8], bytes: &[u8]) {
     let mut packet = empty_items();
-    show_in(line, bytes, &mut packet);
+    show_in(rt, line, bytes, &mut packet);
 }
 
 // A buffer full of empty items. The checker writes out an array where it is made, and this one is long:
@@ -25,29 +25,29 @@ fn empty_items() -> [u8; LONG_ROOM] {
 }
 
 // The packet is made in `packet`, which is full of empty items.
-fn show_in(line: &[u8], bytes: &[u8], packet: &mut [u8]) {
+fn show_in(rt: &impl Print, line: &[u8], bytes: &[u8], packet: &mut [u8]) {
     if bytes.len() < SIZE_END {
-        line::not_run(line, b"too few bytes");
+        line::not_run(rt, line, b"too few bytes");
         return;
     }
     let size = line::number(&bytes[1..SIZE_END]) as usize;
     let tail = &bytes[SIZE_END..];
     if size < HEAD.len() {
-        line::not_run(line, b"too short");
+        line::not_run(rt, line, b"too short");
         return;
     }
     if packet.len() < size {
-        line::not_run(line, b"too long");
+        line::not_run(rt, line, b"too long");
         return;
     }
     let end = size + tail.len();
     if packet.len() < end {
-        line::not_run(line, b"too long");
+        line::not_run(rt, line, b"too long");
         return;
     }
     slices::put(packet, 0, &HEAD);
     slices::put(packet, size, tail);
     let whole = slices::first(packet, end);
-    packets::show_look(line, whole, bytes[0]);
-    packets::show(line, whole);
+    packets::show_look(rt, line, whole, bytes[0]);
+    packets::show(rt, line, whole);
 }

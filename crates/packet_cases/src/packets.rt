@@ -4,58 +4,62 @@ use packet::{Found, Reading};
 
 // A packet's opcode and id or the refusal, the number of its items and of its Names, the first Name,
 // what stands behind it, and the first EOF, by a function each. All are asked of a refused packet too.
-pub(crate) fn show(line: &[u8], packet: &[u8]) {
-    line::label(line);
-    show_reading(packet::read_packet(packet));
-    print::number(b", items ", packet::count_all(packet) as u64);
-    print::number(b", names ", packet::count(packet, packet::NAME_KIND) as u64);
-    show_places(packet);
+pub(crate) fn show(rt: &impl Print, line: &[u8], packet: &[u8]) {
+    line::label(rt, line);
+    show_reading(rt, packet::read_packet(packet));
+    print::number(rt, b", items ", packet::count_all(packet) as u64);
+    print::number(
+        rt,
+        b", names ",
+        packet::count(packet, packet::NAME_KIND) as u64,
+    );
+    show_places(rt, packet);
 }
 
 // What one look at a packet for a kind answers.
-pub(crate) fn show_look(line: &[u8], packet: &[u8], kind: u8) {
-    line::label(line);
+pub(crate) fn show_look(rt: &impl Print, line: &[u8], packet: &[u8], kind: u8) {
+    line::label(rt, line);
     let look = packet::look_for(packet, kind);
     let reading = look.reading;
     let first = look.first;
     let behind = look.behind;
-    show_reading(reading);
-    print::number(b", items ", look.all as u64);
-    print::number(b", of the kind ", look.count as u64);
-    show_place(b", first", first);
-    show_place(b", behind", behind);
-    print::text(b"\n");
+    show_reading(rt, reading);
+    print::number(rt, b", items ", look.all as u64);
+    print::number(rt, b", of the kind ", look.count as u64);
+    show_place(rt, b", first", first);
+    show_place(rt, b", behind", behind);
+    print::text(rt, b"\n");
 }
 
-fn show_reading(reading: Reading) {
+fn show_reading(rt: &impl Print, reading: Reading) {
     match reading {
         Reading::Packet { opcode, id } => {
-            print::number(b": opcode ", opcode as u64);
-            print::number(b" id ", id as u64);
+            print::number(rt, b": opcode ", opcode as u64);
+            print::number(rt, b" id ", id as u64);
         }
-        Reading::Refused(refusal) => print::number(b": refused ", refusal as u64),
+        Reading::Refused(refusal) => print::number(rt, b": refused ", refusal as u64),
     }
 }
 
-fn show_places(packet: &[u8]) {
-    show_place(b", name", packet::find(packet, packet::NAME_KIND));
-    show_place(b", behind", packet::behind(packet, packet::NAME_KIND));
-    show_place(b", end", packet::find(packet, packet::EOF_KIND));
-    print::text(b"\n");
+fn show_places(rt: &impl Print, packet: &[u8]) {
+    show_place(rt, b", name", packet::find(packet, packet::NAME_KIND));
+    show_place(rt, b", behind", packet::behind(packet, packet::NAME_KIND));
+    show_place(rt, b", end", packet::find(packet, packet::EOF_KIND));
+    print::text(rt, b"\n");
 }
 
-fn show_place(label: &[u8], found: Found) {
-    print::text(label);
+fn show_place(rt: &impl Print, label: &[u8], found: Found) {
+    print::text(rt, label);
     match found {
         Found::At {
             kind,
             start,
             length,
         } => {
-            print::number(b" kind ", kind as u64);
-            print::number(b" at ", start as u64);
-            print::number(b" length ", length as u64);
+            print::number(rt, b" kind ", kind as u64);
+            print::number(rt, b" at ", start as u64);
+            print::number(rt, b" length ", length as u64);
         }
-        Found::Nothing => print::text(b" nothing"),
+        Found::Nothing => print::text(rt, b" nothing"),
     }
 }

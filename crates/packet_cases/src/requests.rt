@@ -9,24 +9,24 @@ const TIGHT: usize = 8;
 
 const SHORT: usize = 3;
 
-pub(crate) fn show(line: &[u8], bytes: &[u8]) {
+pub(crate) fn show(rt: &impl Print, line: &[u8], bytes: &[u8]) {
     let mut roomy = [0xeeu8; ROOMY];
-    show_written(line, bytes, &mut roomy);
+    show_written(rt, line, bytes, &mut roomy);
     let mut tight = [0xddu8; TIGHT];
-    show_written(line, bytes, &mut tight);
+    show_written(rt, line, bytes, &mut tight);
     let mut short = [0xccu8; SHORT];
-    show_written(line, bytes, &mut short);
+    show_written(rt, line, bytes, &mut short);
 }
 
-fn show_written(line: &[u8], bytes: &[u8], out: &mut [u8]) {
-    line::label(line);
+fn show_written(rt: &impl Print, line: &[u8], bytes: &[u8], out: &mut [u8]) {
+    line::label(rt, line);
     let written = write(line::key(line), bytes, out);
     match written {
-        Written::Length(length) => print::number(b": length ", length as u64),
-        Written::Refused(refusal) => print::number(b": refused ", refusal as u64),
+        Written::Length(length) => print::number(rt, b": length ", length as u64),
+        Written::Refused(refusal) => print::number(rt, b": refused ", refusal as u64),
     }
-    print::bytes(b" ", out, out.len());
-    print::text(b"\n");
+    print::bytes(rt, b" ", out, out.len());
+    print::text(rt, b"\n");
 }
 
 fn write(key: u8, bytes: &[u8], out: &mut [u8]) -> Written {

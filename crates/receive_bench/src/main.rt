@@ -14,11 +14,13 @@ ghost use Rattle.std.specs.Prelude.{◌≤◌, min, length};
 ghost use Rattle.frame.specs.Content.{payload_max};
 ghost use Rattle.link.specs.Closing.{reply_room};
 
-use cases::line;
+use cases::{input, line};
 use display::Display;
 use frame::PAYLOAD_MAX;
-use libc::STDIN_FILENO;
 use link::receiver::REPLY_ROOM;
+
+// What is read of the input: its first bytes, if it is longer.
+const INPUT_ROOM: usize = 65536;
 
 // The three numbers before the watch list.
 const SIZE_END: usize = 4;
@@ -27,13 +29,13 @@ const ROUNDS_END: usize = 8;
 
 const LISTED_END: usize = 12;
 
-fn main() {
-    let mut input = io::large_buffer();
-    let length = io::read_full(STDIN_FILENO, &mut input);
-    feed_input(&input[..length]);
+fn main(rt: HostRuntime) {
+    let mut bytes = [0u8; INPUT_ROOM];
+    let length = input::read_full(&mut rt.stdin(), &mut bytes);
+    feed_input(&rt, &bytes[..length]);
 }
 
-fn feed_input(input: &[u8]) {
+fn feed_input(rt: &impl Print, input: &[u8]) {
     if input.len() < LISTED_END {
         return;
     }
@@ -47,7 +49,7 @@ fn feed_input(input: &[u8]) {
     let watched = board::watch_list(&rest[..listed]);
     let fresh = display::start(watched.board);
     let last = feed_rounds(fresh, &rest[listed..], size, rounds);
-    display_cases::show_display(last);
+    display_cases::show_display(rt, last);
 }
 
 fn feed_rounds(display: Display, stream: &[u8], size: usize, rounds: usize) -> Display {

@@ -6,30 +6,29 @@ mod read;
 
 use read::Progress;
 
-// A history has any length, but a proved loop has to end: it counts its turns down from a number
-// that no history uses up.
-fn main() {
+// A history has any length, but a proved loop has to end: this one has more turns than any history
+// uses up.
+fn main(rt: HostRuntime) {
+    let mut input = rt.stdin();
     let board = rows::fresh();
     let mut display = display::start(board);
     let mut listing = true;
-    let mut turns = u64::MAX;
-    while 0 < turns {
-        let step = read::field(display, listing);
+    for _ in 0..u64::MAX {
+        let step = read::field(&rt, &mut input, display, listing);
         let progress = step.progress;
         match progress {
             Progress::Named => {}
             Progress::Played => listing = false,
             Progress::Ended => {
-                print::report(step.display);
+                print::report(&rt, step.display);
                 return;
             }
             Progress::Broken => {
-                print::broken();
+                print::broken(&rt);
                 return;
             }
             Progress::Stopped => return,
         }
         display = step.display;
-        turns -= 1;
     }
 }

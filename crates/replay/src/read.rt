@@ -5,8 +5,8 @@ use board::Listed;
 use display::{Answer, Display};
 use frame::PAYLOAD_MAX;
 use history::fields::{FIELD_MAX, Head};
-use libc::STDIN_FILENO;
 use link::receiver::REPLY_ROOM;
+use std::io::Read;
 
 // The bytes of a field's length.
 const LENGTH_BYTES: usize = 2;
@@ -37,51 +37,60 @@ struct Taken {
 }
 
 // Reads a field and plays it. A field that is cut is broken as a whole.
-pub(crate) fn field(display: Display, listing: bool) -> Step {
+pub(crate) fn field(
+    rt: &impl Print,
+    input: &mut impl Read,
+    display: Display,
+    listing: bool,
+) -> Step {
     let mut start = [0u8; 1];
-    let got = libc::read(STDIN_FILENO, &mut start);
-    if got < 0 {
-        return with(display, Progress::Stopped);
-    }
-    if got == 0 {
-        return with(display, Progress::Ended);
+    match input.read(&mut start) {
+        Err(_) => return with(display, Progress::Stopped),
+        Ok(0) => return with(display, Progress::Ended),
+        Ok(_) => {}
     }
     let mut size = [0u8; LENGTH_BYTES];
-    let count = io::read_full(STDIN_FILENO, &mut size);
-    if count != LENGTH_BYTES {
+    if input.read_exact(&mut size).is_err() {
         return with(display, Progress::Broken);
     }
     let head = history::fields::judge(start[0], size[0], size[1], listing);
-    play(display, head)
+    play(rt, input, display, head)
 }
 
 fn with(display: Display, progress: Progress) -> Step {
     Step { display, progress }
 }
 
-fn play(display: Display, head: Head) -> Step {
+fn play(rt: &impl Print, input: &mut impl Read, display: Display, head: Head) -> Step {
     let mut space = [0u8; FIELD_MAX];
     match head {
-        Head::Name(length) => body(display, &mut space, length, true),
-        Head::Received(length) => body(display, &mut space, length, false),
+        Head::Name(length) => body(rt, input, display, &mut space, length, true),
+        Head::Received(length) => body(rt, input, display, &mut space, length, false),
         Head::Tick => with(display::tick(display), Progress::Played),
         Head::Broken => with(display, Progress::Broken),
     }
 }
 
 // The bytes of a name or of a piece that was received.
-fn body(display: Display, space: &mut [u8], length: usize, named: bool) -> Step {
+fn body(
+    rt: &impl Print,
+    input: &mut impl Read,
+    display: Display,
+    space: &mut [u8],
+    length: usize,
+    named: bool,
+) -> Step {
     if space.len() < length {
         return with(display, Progress::Broken);
     }
-    let count = io::read_full(STDIN_FILENO, &mut space[..length]);
-    if count != length {
+    let bytes = &mut space[..length];
+    if input.read_exact(bytes).is_err() {
         return with(display, Progress::Broken);
     }
     if named {
-        return list(display, &space[..length]);
+        return list(display, bytes);
     }
-    feed(display, &space[..length])
+    feed(rt, display, bytes)
 }
 
 // No byte has come yet, so the display starts anew with each name.
@@ -97,11 +106,11 @@ fn list(display: Display, name: &[u8]) -> Step {
 }
 
 // A call stops after each frame: the rest goes to the next one.
-fn feed(display: Display, bytes: &[u8]) -> Step {
+fn feed(rt: &impl Print, display: Display, bytes: &[u8]) -> Step {
     let mut next = display;
     let mut at: usize = 0;
     while at < bytes.len() {
-        let call = take(next, &bytes[at..]);
+        let call = take(rt, next, &bytes[at..]);
         next = call.display;
         if !call.printed {
             return with(next, Progress::Stopped);
@@ -113,14 +122,14 @@ fn feed(display: Display, bytes: &[u8]) -> Step {
 
 // One call, whose reply is printed. The contract says how many bytes it takes, and no more: the loop
 // needs that to end.
-fn take(display: Display, piece: &[u8]) -> Taken
+fn take(rt: &impl Print, display: Display, piece: &[u8]) -> Taken
     ensures { Takes piece.now result.taken }
 {
     let mut reply = [0u8; REPLY_ROOM];
     let mut packet = [0u8; PAYLOAD_MAX];
     let received = display::receive(display, piece, &mut reply, &mut packet);
     let answer = received.answer;
-    let printed = print_reply(answer, &reply);
+    let printed = print_reply(rt, answer, &reply);
     let next = received.display;
     Taken {
         display: next,
@@ -129,14 +138,14 @@ fn take(display: Display, piece: &[u8]) -> Taken
     }
 }
 
-fn print_reply(answer: Answer, reply: &[u8]) -> bool {
+fn print_reply(rt: &impl Print, answer: Answer, reply: &[u8]) -> bool {
     match answer {
         Answer::New {
             reply: length,
             packet: _,
             reading: _,
-        } => reports::reply(reply, length),
-        Answer::Again(length) => reports::reply(reply, length),
+        } => reports::reply(rt, reply, length),
+        Answer::Again(length) => reports::reply(rt, reply, length),
         Answer::Nothing => true,
         Answer::Refused { .. } => true,
         Answer::Heard(_) => true,

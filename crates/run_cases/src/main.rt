@@ -7,8 +7,7 @@
 // a case: the crate of its subject says which keys there are. A line that is not run is told.
 mod subjects;
 
-use cases::{line, print};
-use libc::STDIN_FILENO;
+use cases::{input, line, print};
 use subjects::State;
 use transfer_cases::FILE_MAX;
 
@@ -18,41 +17,41 @@ const INPUT_ROOM: usize = 0x40000;
 // The bytes of a line are fewer than this, or it is not run: 41 of the longest names have 1,230.
 const CASE_ROOM: usize = 1231;
 
-fn main() {
-    let mut input = [0u8; INPUT_ROOM];
-    let length = io::read_full(STDIN_FILENO, &mut input);
+fn main(rt: HostRuntime) {
+    let mut text = [0u8; INPUT_ROOM];
+    let length = input::read_full(&mut rt.stdin(), &mut text);
     let mut file = [0u8; FILE_MAX];
     if length == INPUT_ROOM {
-        print::text(b"the input is too long\n");
+        print::text(&rt, b"the input is too long\n");
         return;
     }
-    run_all(&input[..length], &mut file);
+    run_all(&rt, &text[..length], &mut file);
 }
 
-fn run_all(text: &[u8], file: &mut [u8]) {
+fn run_all(rt: &impl Print, text: &[u8], file: &mut [u8]) {
     let mut state = subjects::first();
     let mut at: usize = 0;
     while at < text.len() {
-        state = run(state, line::at(text, at), file);
+        state = run(rt, state, line::at(text, at), file);
         at = line::behind(text, at);
     }
 }
 
-fn run(state: State, line: &[u8], file: &mut [u8]) -> State {
+fn run(rt: &impl Print, state: State, line: &[u8], file: &mut [u8]) -> State {
     let mut bytes = [0u8; CASE_ROOM];
     let count = line::bytes(line, &mut bytes);
     if count == CASE_ROOM {
-        line::not_run(line, b"too long");
+        line::not_run(rt, line, b"too long");
         return state;
     }
-    run_line(state, line, &bytes[..count], file)
+    run_line(rt, state, line, &bytes[..count], file)
 }
 
-fn run_line(state: State, line: &[u8], bytes: &[u8], file: &mut [u8]) -> State {
+fn run_line(rt: &impl Print, state: State, line: &[u8], bytes: &[u8], file: &mut [u8]) -> State {
     let key = line::key(line);
     match key {
         b'#' | 0 => state,
-        b'=' => subjects::next(line),
-        _ => subjects::run(state, line, bytes, file),
+        b'=' => subjects::next(rt, line),
+        _ => subjects::run(rt, state, line, bytes, file),
     }
 }

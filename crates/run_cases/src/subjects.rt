@@ -42,9 +42,9 @@ fn fresh(subject: Subject) -> State {
 }
 
 // The subject that a line names, from its beginning.
-pub(crate) fn next(line: &[u8]) -> State {
-    print::text(line);
-    print::text(b"\n");
+pub(crate) fn next(rt: &impl Print, line: &[u8]) -> State {
+    print::text(rt, line);
+    print::text(rt, b"\n");
     fresh(named(line))
 }
 
@@ -74,41 +74,53 @@ fn named(line: &[u8]) -> Subject {
 }
 
 // Runs a case. The session, the cutter, the transfer and the display leave something behind.
-pub(crate) fn run(state: State, line: &[u8], bytes: &[u8], file: &mut [u8]) -> State {
+pub(crate) fn run(
+    rt: &impl Print,
+    state: State,
+    line: &[u8],
+    bytes: &[u8],
+    file: &mut [u8],
+) -> State {
     let subject = state.subject;
     match subject {
-        Subject::Nothing => line::not_run(line, b"no such subject"),
-        Subject::Packet => packet_cases::run(line, bytes),
-        Subject::Ash => ash_cases::run(line, bytes),
-        Subject::Session => return run_session(state, line, bytes),
-        Subject::Cutter => return run_cutter(state, line, bytes),
-        Subject::Board => board_cases::run(line, bytes),
-        Subject::Transfer => return run_transfer(state, line, bytes, file),
-        Subject::Display => return run_display(state, line, bytes),
+        Subject::Nothing => line::not_run(rt, line, b"no such subject"),
+        Subject::Packet => packet_cases::run(rt, line, bytes),
+        Subject::Ash => ash_cases::run(rt, line, bytes),
+        Subject::Session => return run_session(rt, state, line, bytes),
+        Subject::Cutter => return run_cutter(rt, state, line, bytes),
+        Subject::Board => board_cases::run(rt, line, bytes),
+        Subject::Transfer => return run_transfer(rt, state, line, bytes, file),
+        Subject::Display => return run_display(rt, state, line, bytes),
     }
     state
 }
 
-fn run_session(state: State, line: &[u8], bytes: &[u8]) -> State {
+fn run_session(rt: &impl Print, state: State, line: &[u8], bytes: &[u8]) -> State {
     let mut next = state;
-    next.sessions = session_cases::run(state.sessions, line, bytes);
+    next.sessions = session_cases::run(rt, state.sessions, line, bytes);
     next
 }
 
-fn run_cutter(state: State, line: &[u8], bytes: &[u8]) -> State {
+fn run_cutter(rt: &impl Print, state: State, line: &[u8], bytes: &[u8]) -> State {
     let mut next = state;
-    next.cutter = cutter_cases::run(state.cutter, line, bytes);
+    next.cutter = cutter_cases::run(rt, state.cutter, line, bytes);
     next
 }
 
-fn run_transfer(state: State, line: &[u8], bytes: &[u8], file: &mut [u8]) -> State {
+fn run_transfer(
+    rt: &impl Print,
+    state: State,
+    line: &[u8],
+    bytes: &[u8],
+    file: &mut [u8],
+) -> State {
     let mut next = state;
-    next.transfer = transfer_cases::run(state.transfer, line, bytes, file);
+    next.transfer = transfer_cases::run(rt, state.transfer, line, bytes, file);
     next
 }
 
-fn run_display(state: State, line: &[u8], bytes: &[u8]) -> State {
+fn run_display(rt: &impl Print, state: State, line: &[u8], bytes: &[u8]) -> State {
     let mut next = state;
-    next.display = display_cases::run(state.display, line, bytes);
+    next.display = display_cases::run(rt, state.display, line, bytes);
     next
 }

@@ -13,19 +13,19 @@ mod steps;
 use cases::line;
 pub use steps::{Sessions, first};
 
-pub fn run(state: Sessions, line: &[u8], bytes: &[u8]) -> Sessions {
+pub fn run(rt: &impl Print, state: Sessions, line: &[u8], bytes: &[u8]) -> Sessions {
     let key = line::key(line);
     match key {
         b'n' => steps::begin(state),
         b'm' => steps::mark(state),
         b'b' => steps::go_back(state),
-        b'q' => steps::show(state, line),
-        b'r' | b't' | b's' | b'f' => steps::run_event(state, line, bytes),
-        _ => no_key(state, line),
+        b'q' => steps::show(rt, state, line),
+        b'r' | b't' | b's' | b'f' => steps::run_event(rt, state, line, bytes),
+        _ => no_key(rt, state, line),
     }
 }
 
-fn no_key(state: Sessions, line: &[u8]) -> Sessions {
-    line::not_run(line, b"no such key");
+fn no_key(rt: &impl Print, state: Sessions, line: &[u8]) -> Sessions {
+    line::not_run(rt, line, b"no such key");
     state
 }

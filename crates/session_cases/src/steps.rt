@@ -61,55 +61,74 @@ pub(crate) fn go_back(state: Sessions) -> Sessions
     }
 }
 
-pub(crate) fn show(state: Sessions, line: &[u8]) -> Sessions {
-    report::show_session(line, state.session);
+pub(crate) fn show(rt: &impl Print, state: Sessions, line: &[u8]) -> Sessions {
+    report::show_session(rt, line, state.session);
     state
 }
 
-pub(crate) fn run_event(state: Sessions, line: &[u8], bytes: &[u8]) -> Sessions {
+pub(crate) fn run_event(rt: &impl Print, state: Sessions, line: &[u8], bytes: &[u8]) -> Sessions {
     let marked = state.marked;
     let mut output = [UNTOUCHED; OUTPUT_MAX];
-    let session = lend_output(state.session, line, bytes, &mut output);
+    let session = lend_output(rt, state.session, line, bytes, &mut output);
     Sessions { session, marked }
 }
 
-fn lend_output(session: Session, line: &[u8], bytes: &[u8], output: &mut [u8]) -> Session {
+fn lend_output(
+    rt: &impl Print,
+    session: Session,
+    line: &[u8],
+    bytes: &[u8],
+    output: &mut [u8],
+) -> Session {
     if bytes.len() == 0 {
-        line::not_run(line, b"too few bytes");
+        line::not_run(rt, line, b"too few bytes");
         return session;
     }
     let room = bytes[0] as usize;
     if output.len() < room {
-        line::not_run(line, b"too long an output");
+        line::not_run(rt, line, b"too long an output");
         return session;
     }
-    take_event(session, line, &bytes[1..], &mut output[..room])
+    take_event(rt, session, line, &bytes[1..], &mut output[..room])
 }
 
-fn take_event(session: Session, line: &[u8], bytes: &[u8], output: &mut [u8]) -> Session {
+fn take_event(
+    rt: &impl Print,
+    session: Session,
+    line: &[u8],
+    bytes: &[u8],
+    output: &mut [u8],
+) -> Session {
     let key = line::key(line);
     match key {
-        b'r' => sent(line, ours::reset(session, output), output),
-        b't' => sent(line, ours::timeout(session, output), output),
-        b's' => sent(line, ours::send(session, bytes, output), output),
-        _ => receive(session, line, bytes, output),
+        b'r' => sent(rt, line, ours::reset(session, output), output),
+        b't' => sent(rt, line, ours::timeout(session, output), output),
+        b's' => sent(rt, line, ours::send(session, bytes, output), output),
+        _ => receive(rt, session, line, bytes, output),
     }
 }
 
 // Prints what an event of our side gave; the session after it.
-fn sent(line: &[u8], outcome: Outcome, output: &[u8]) -> Session {
-    report::show_answer(line, outcome);
-    print::lent(b" ", output);
-    print::text(b"\n");
+fn sent(rt: &impl Print, line: &[u8], outcome: Outcome, output: &[u8]) -> Session {
+    report::show_answer(rt, line, outcome);
+    print::lent(rt, b" ", output);
+    print::text(rt, b"\n");
     outcome.session
 }
 
-fn receive(session: Session, line: &[u8], bytes: &[u8], output: &mut [u8]) -> Session {
+fn receive(
+    rt: &impl Print,
+    session: Session,
+    line: &[u8],
+    bytes: &[u8],
+    output: &mut [u8],
+) -> Session {
     let mut payload = [UNTOUCHED; PAYLOAD_ROOM_MAX];
-    lend_payload(session, line, bytes, output, &mut payload)
+    lend_payload(rt, session, line, bytes, output, &mut payload)
 }
 
 fn lend_payload(
+    rt: &impl Print,
     session: Session,
     line: &[u8],
     bytes: &[u8],
@@ -117,18 +136,19 @@ fn lend_payload(
     payload: &mut [u8],
 ) -> Session {
     if bytes.len() == 0 {
-        line::not_run(line, b"too few bytes");
+        line::not_run(rt, line, b"too few bytes");
         return session;
     }
     let room = bytes[0] as usize;
     if payload.len() < room {
-        line::not_run(line, b"too long a payload");
+        line::not_run(rt, line, b"too long a payload");
         return session;
     }
-    take_frame(session, line, &bytes[1..], output, &mut payload[..room])
+    take_frame(rt, session, line, &bytes[1..], output, &mut payload[..room])
 }
 
 fn take_frame(
+    rt: &impl Print,
     session: Session,
     line: &[u8],
     frame: &[u8],
@@ -136,9 +156,9 @@ fn take_frame(
     payload: &mut [u8],
 ) -> Session {
     let outcome = receiving::receive(session, frame, output, payload);
-    report::show_answer(line, outcome);
-    print::lent(b" ", output);
-    print::lent(b" ", payload);
-    print::text(b"\n");
+    report::show_answer(rt, line, outcome);
+    print::lent(rt, b" ", output);
+    print::lent(rt, b" ", payload);
+    print::text(rt, b"\n");
     outcome.session
 }

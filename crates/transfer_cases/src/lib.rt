@@ -11,19 +11,25 @@ mod steps;
 use cases::line;
 pub use steps::{FILE_MAX, Receiving, first};
 
-pub fn run(state: Receiving, line: &[u8], bytes: &[u8], file: &mut [u8]) -> Receiving {
+pub fn run(
+    rt: &impl Print,
+    state: Receiving,
+    line: &[u8],
+    bytes: &[u8],
+    file: &mut [u8],
+) -> Receiving {
     let key = line::key(line);
     match key {
-        b's' => steps::start(state, line, bytes, file),
-        b'g' => steps::give(state, line, bytes, file),
-        b'a' => steps::give_alone(state, line, bytes, file),
+        b's' => steps::start(rt, state, line, bytes, file),
+        b'g' => steps::give(rt, state, line, bytes, file),
+        b'a' => steps::give_alone(rt, state, line, bytes, file),
         b'b' => steps::with_room(state, bytes),
         b'n' => steps::with_next(state, bytes),
-        _ => no_key(state, line),
+        _ => no_key(rt, state, line),
     }
 }
 
-fn no_key(state: Receiving, line: &[u8]) -> Receiving {
-    line::not_run(line, b"no such key");
+fn no_key(rt: &impl Print, state: Receiving, line: &[u8]) -> Receiving {
+    line::not_run(rt, line, b"no such key");
     state
 }

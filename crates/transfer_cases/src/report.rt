@@ -6,37 +6,37 @@ use transfer::{Answer, Declared, Outcome};
 const SHOWN: usize = 10;
 
 // An answer and the transfer after it.
-pub(crate) fn show(line: &[u8], outcome: Outcome) {
-    line::label(line);
+pub(crate) fn show(rt: &impl Print, line: &[u8], outcome: Outcome) {
+    line::label(rt, line);
     let answer = outcome.answer;
     match answer {
-        Answer::Accepted => print::text(b": accepted"),
-        Answer::Refused(refusal) => print::number(b": refused ", refusal as u64),
+        Answer::Accepted => print::text(rt, b": accepted"),
+        Answer::Refused(refusal) => print::number(rt, b": refused ", refusal as u64),
     }
     let transfer = outcome.transfer;
-    print::number(b", next ", transfer.next as u64);
+    print::number(rt, b", next ", transfer.next as u64);
     let declared = transfer.declared;
     match declared {
-        Declared::Known(length) => print::number(b", length ", length as u64),
-        Declared::Unknown => print::text(b", length unknown"),
+        Declared::Known(length) => print::number(rt, b", length ", length as u64),
+        Declared::Unknown => print::text(rt, b", length unknown"),
     }
-    show_end(transfer.complete);
+    show_end(rt, transfer.complete);
 }
 
-fn show_end(complete: bool) {
+fn show_end(rt: &impl Print, complete: bool) {
     if complete {
-        print::text(b", complete");
+        print::text(rt, b", complete");
     } else {
-        print::text(b", going on");
+        print::text(rt, b", going on");
     }
 }
 
-pub(crate) fn show_file(file: &[u8]) {
+pub(crate) fn show_file(rt: &impl Print, file: &[u8]) {
     if SHOWN < file.len() {
         let start = file.len() - SHOWN;
-        print::bytes(b", file ", &file[start..], SHOWN);
+        print::bytes(rt, b", file ", &file[start..], SHOWN);
     } else {
-        print::bytes(b", file ", file, SHOWN);
+        print::bytes(rt, b", file ", file, SHOWN);
     }
-    print::text(b"\n");
+    print::text(rt, b"\n");
 }

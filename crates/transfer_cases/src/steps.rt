@@ -25,11 +25,17 @@ pub fn first() -> Receiving
     Receiving { transfer, room: 0 }
 }
 
-pub(crate) fn start(state: Receiving, line: &[u8], location: &[u8], file: &mut [u8]) -> Receiving {
+pub(crate) fn start(
+    rt: &impl Print,
+    state: Receiving,
+    line: &[u8],
+    location: &[u8],
+    file: &mut [u8],
+) -> Receiving {
     clear(file);
     let outcome = transfer::start(location);
-    report::show(line, outcome);
-    print::text(b"\n");
+    report::show(rt, line, outcome);
+    print::text(rt, b"\n");
     let transfer = outcome.transfer;
     Receiving {
         transfer,
@@ -42,24 +48,37 @@ fn clear(file: &mut [u8]) {
     slices::put(file, 0, &untouched);
 }
 
-pub(crate) fn give(state: Receiving, line: &[u8], packet: &[u8], file: &mut [u8]) -> Receiving {
+pub(crate) fn give(
+    rt: &impl Print,
+    state: Receiving,
+    line: &[u8],
+    packet: &[u8],
+    file: &mut [u8],
+) -> Receiving {
     let room = state.room;
     if file.len() < room {
-        line::not_run(line, b"too long a buffer");
+        line::not_run(rt, line, b"too long a buffer");
         return state;
     }
-    let transfer = take(state.transfer, line, packet, &mut file[..room]);
+    let transfer = take(rt, state.transfer, line, packet, &mut file[..room]);
     Receiving { transfer, room }
 }
 
-fn take(before: Transfer, line: &[u8], packet: &[u8], file: &mut [u8]) -> Transfer {
+fn take(
+    rt: &impl Print,
+    before: Transfer,
+    line: &[u8],
+    packet: &[u8],
+    file: &mut [u8],
+) -> Transfer {
     let outcome = transfer::take(before, packet, file);
-    report::show(line, outcome);
-    report::show_file(file);
+    report::show(rt, line, outcome);
+    report::show_file(rt, file);
     outcome.transfer
 }
 
 pub(crate) fn give_alone(
+    rt: &impl Print,
     state: Receiving,
     line: &[u8],
     packet: &[u8],
@@ -72,7 +91,7 @@ pub(crate) fn give_alone(
         transfer,
         room: state.room,
     };
-    give(fresh, line, packet, file)
+    give(rt, fresh, line, packet, file)
 }
 
 pub(crate) fn with_room(state: Receiving, bytes: &[u8]) -> Receiving {

@@ -1,0 +1,10 @@
+-- `receive_bench::feed` ends, since each piece is some of the rest.
+use Rattle.std.proofs.Common.{◌≡◌, ◌-◌, ◌≤◌, length}
+use Rattle.receive_bench.proofs.feed.Given as goal
+
+abbrev pub invariant-loop-at : goal.invariant-loop-at
+invariant-loop-at l =
+    (l.at ≤ length l.stream) × (length l.reply ≡ length l.initial.reply) × (length l.packet ≡ length l.initial.packet)
+
+abbrev pub decreases-loop-at : goal.decreases-loop-at
+decreases-loop-at l = length l.stream - l.at

@@ -14,7 +14,7 @@ use Rattle.crc.specs.Burst.{Burst}
 use Rattle.crc.specs.Crc.{crc_of}
 use Rattle.crc.proofs.BurstLaws.{burst_seen, pair_burst}
 use Rattle.crc.proofs.CrcLaws.{crc_append}
-use Rattle.crc.proofs.LinearLaws.{crc_three}
+use Rattle.crc.proofs.ThreeStrings.{crc_three}
 use Rattle.crc.proofs.check.Reads as check
 use Rattle.crc.proofs.table.check_by_table.Reads as table
 

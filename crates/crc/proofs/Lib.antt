@@ -7,4 +7,5 @@ pub mod LinearLaws
 pub mod ReadBytes
 pub mod SingleBits
 pub mod TableLaws
+pub mod ThreeStrings
 pub mod Values

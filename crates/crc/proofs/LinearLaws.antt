@@ -5,12 +5,11 @@ use mathlib.Core.List.{List, [], ◌∷◌}
 use Prim.Native.Nat.{ℕ, zero, suc, ◌*◌, ◌/◌, ◌%◌, ◌<◌}
 use native.Mathlib.Nat.{suc_inj}
 use native.Mathlib.Omega.{arith}
-use lib.Bits.{bit_xor, xor_zero_r, xor_self, xor_mod, xor_shr}
+use lib.Bits.{bit_xor, xor_zero_r, xor_mod, xor_shr}
 use lib.Dec.{eqb}
 use lib.ListN.{length}
 use Rattle.slices.specs.ExclusiveOr.{xor_of}
 use Rattle.slices.proofs.XorLaws.{xor_swap, xor_shl}
-use Rattle.slices.proofs.XorStrings.{xor_length}
 use Rattle.crc.specs.Crc.{polynomial, shift_bit, shift_bits, add_byte, crc_of}
 
 -- what is added is the polynomial times the bit that falls out
@@ -63,12 +62,3 @@ crc_xor q r [] (y ∷ ys) same = absurd (omega arith)
 crc_xor q r (x ∷ xs) [] same = absurd (omega arith)
 crc_xor q r (x ∷ xs) (y ∷ ys) same =
     ap (λ (register : ℕ). crc_of register (xor_of xs ys)) (add_xor q r x y) ∙ crc_xor (add_byte q x) (add_byte r y) xs ys (suc_inj same)
-
--- THEOREM (02, C-24). The check of the bytewise exclusive-or of three strings of equal length is the exclusive-or of their checks, for each
--- start value: of three equal starts two cancel. (Of two strings it is not so: answers/proofs/KnownChecks.)
-pub crc_three : (start : ℕ) (xs ys zs : List ℕ) → length xs ≡ length ys → length ys ≡ length zs
-    → crc_of start (xor_of (xor_of xs ys) zs) ≡ bit_xor (bit_xor (crc_of start xs) (crc_of start ys)) (crc_of start zs)
-crc_three start xs ys zs two three =
-    ap (λ (none : ℕ). crc_of (bit_xor none start) (xor_of (xor_of xs ys) zs)) (sym (xor_self start))
-    ∙ crc_xor (bit_xor start start) start (xor_of xs ys) zs (xor_length xs ys two ∙ two ∙ three)
-    ∙ ap (λ (both : ℕ). bit_xor both (crc_of start zs)) (crc_xor start start xs ys two)

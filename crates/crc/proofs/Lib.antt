@@ -3,6 +3,7 @@ pub mod BurstLaws
 pub mod CheckCalls
 pub mod CrcLaws
 pub mod DivisionLaws
+pub mod FallingBit
 pub mod LinearLaws
 pub mod ReadBytes
 pub mod SingleBits

@@ -1,22 +1,15 @@
 -- The CRC is linear: the exclusive-or of two registers goes through each bit, each byte and each string.
 use mathlib.Core.Path.{◌≡◌, refl, sym, ap, ap₂, ◌∙◌}
-use mathlib.Core.Bool.{cond}
 use mathlib.Core.List.{List, [], ◌∷◌}
 use Prim.Native.Nat.{ℕ, zero, suc, ◌*◌, ◌/◌, ◌%◌, ◌<◌}
 use native.Mathlib.Nat.{suc_inj}
 use native.Mathlib.Omega.{arith}
-use lib.Bits.{bit_xor, xor_zero_r, xor_mod, xor_shr}
-use lib.Dec.{eqb}
+use lib.Bits.{bit_xor, xor_mod, xor_shr}
 use lib.ListN.{length}
 use Rattle.slices.specs.ExclusiveOr.{xor_of}
 use Rattle.slices.proofs.XorLaws.{xor_swap, xor_shl}
 use Rattle.crc.specs.Crc.{polynomial, shift_bit, shift_bits, add_byte, crc_of}
-
--- what is added is the polynomial times the bit that falls out
-times_bit : (shifted bit : ℕ) → bit < 2 → cond (eqb bit 1) (bit_xor shifted polynomial) shifted ≡ bit_xor shifted (bit * polynomial)
-times_bit shifted zero h = sym (xor_zero_r shifted)
-times_bit shifted (suc zero) h = refl
-times_bit shifted (suc (suc more)) h = absurd (omega arith)
+use Rattle.crc.proofs.FallingBit.{times_bit}
 
 pub shift_sum : (r : ℕ) → shift_bit r ≡ bit_xor (r % 0x8000 * 2) (r / 0x8000 % 2 * polynomial)
 unfolding shift_bit

@@ -1,11 +1,18 @@
 -- A lent buffer as text: its bytes in hexadecimal up to and with the last one that a call has touched.
-use Rattle.std.specs.Prelude.{ℕ, suc, cond, List, [], ◌∷◌, eqb}
-use Rattle.cases.specs.Digits.{last_digits}
+use Rattle.std.specs.Prelude.{ℕ, suc, ◌+◌, ◌-◌, ◌/◌, ◌%◌, cond, List, [], ◌∷◌, eqb, ltb}
 use Rattle.slices.specs.Each.{each}
+
+-- a hexadecimal digit as text, in small letters: 30 is the code of 0, and 61 that of a
+abbrev pub hex_digit_ascii : ℕ → ℕ
+hex_digit_ascii digit = cond (ltb digit 10) (0x30 + digit) (0x61 + (digit - 10))
+
+-- a byte's high digit, then its low one
+abbrev pub byte_digits : ℕ → List ℕ
+byte_digits byte = hex_digit_ascii (byte / 16 % 16) ∷ hex_digit_ascii (byte % 16) ∷ []
 
 -- two digits for each byte
 abbrev pub hex_of : List ℕ → List ℕ
-hex_of bytes = each (last_digits 16 2) bytes
+hex_of bytes = each byte_digits bytes
 
 -- what each byte holds before a call
 abbrev pub untouched : ℕ

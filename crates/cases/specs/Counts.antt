@@ -1,6 +1,6 @@
--- How many bytes stand at the start of a buffer.
+-- A reader's answer: how many of a buffer's bytes it has put there, which are the first ones.
 use Rattle.std.specs.Prelude.{◌≡◌, ℕ, ◌≤◌, List, length, take}
 
--- there are so many: the second part follows from the first, and spares a caller's `&buffer[..count]` a proof
+-- The buffer has so many bytes, and so many are taken where they are cut off: what a caller's slice of them owes.
 abbrev pub IsPrefixLen : ℕ → List ℕ → Type 0
-IsPrefixLen count xs = (count ≤ length xs) × (count ≡ length (take count xs))
+IsPrefixLen count buffer = (count ≤ length buffer) × (count ≡ length (take count buffer))

@@ -1,4 +1,3 @@
 pub mod Buffer
 pub mod Counts
-pub mod Digits
 pub mod Line

@@ -1,8 +1,7 @@
 // A lent buffer as text: bytes in hexadecimal, and how many of them a call has touched.
 ghost use Rattle.std.specs.Prelude.{◌≡◌, ◌%◌, ◌≤◌, length};
-ghost use Rattle.cases.specs.Digits.{hex_digit_ascii};
 ghost use Rattle.slices.specs.Put.{put_at};
-ghost use Rattle.cases.specs.Buffer.{hex_of, written_of};
+ghost use Rattle.cases.specs.Buffer.{hex_digit_ascii, hex_of, written_of};
 
 // What a lent buffer holds before a call.
 pub const UNTOUCHED: u8 = 0xee;

@@ -1,21 +1,21 @@
 use Rattle.std.proofs.Common.{arith, refl, ◌∙◌}
 use native.Mathlib.Nat.{zero-add}
-use Rattle.cases.specs.Digits.{last_digits}
+use Rattle.cases.specs.Buffer.{byte_digits}
 use Rattle.slices.proofs.EachLaws.{length_each}
 use Rattle.slices.proofs.EachPut.{next_place, one_put, all_put}
 use Rattle.cases.proofs.buffer.put_digits.Goals as goal
 
 pub overflow_add-to : goal.overflow_add-to
 overflow_add-to c =
-    let place = next_place (last_digits 16 2) _ _ _ _ _ _ c.loop-i.invariant c.loop-i-test.true in
-    let most = length_each (last_digits 16 2) (λ b. omega arith) c.args.bytes.now in
+    let place = next_place byte_digits _ _ _ _ _ _ c.loop-i.invariant c.loop-i-test.true in
+    let most = length_each byte_digits (λ b. omega arith) c.args.bytes.now in
     omega (arith, place, most)
 
 pub loop-i-preserved : goal.loop-i-preserved
 loop-i-preserved c =
-    one_put (last_digits 16 2) _ _ _ _ _ _ c.loop-i.invariant c.loop-i-test.true _ _ refl c.put.auto.dst (rw (c.digit.ensures, c.digit-in-loop-i.ensures) at c.put.ensures)
+    one_put byte_digits _ _ _ _ _ _ c.loop-i.invariant c.loop-i-test.true _ _ refl c.put.auto.dst (rw (c.digit.ensures, c.digit-in-loop-i.ensures) at c.put.ensures)
 
 pub returns : goal.returns
 returns c =
-    let all = all_put (last_digits 16 2) _ _ _ _ _ _ c.loop-i.invariant c.loop-i-test.false in
+    let all = all_put byte_digits _ _ _ _ _ _ c.loop-i.invariant c.loop-i-test.false in
     (all.0 ∙ zero-add _, all.1)

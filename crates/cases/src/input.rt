@@ -3,8 +3,8 @@ ghost use Rattle.cases.specs.Counts.{IsPrefixLen};
 
 use std::io::Read;
 
-// Reads until the buffer is full, the input ends or a read fails, and answers how many bytes it put
-// at the start of the buffer.
+// The next bytes of the input, as many as there are and as fit, and how many those are. A read that
+// fails counts as the end of the input.
 pub fn read_full(input: &mut impl Read, buffer: &mut [u8]) -> usize
     ensures { IsPrefixLen result buffer.new }
 {

@@ -2,6 +2,7 @@ pub mod Bits
 pub mod Difference
 pub mod Each
 pub mod ExclusiveOr
+pub mod FixedBytes
 pub mod HighFirst
 pub mod Put
 pub mod Same

@@ -6,6 +6,10 @@ ghost use Rattle.slices.specs.HighFirst.{pair_of};
 ghost use Rattle.slices.specs.Put.{put_at};
 ghost use Rattle.slices.specs.Same.{same_bytes};
 
+mod fixed_bytes;
+
+pub use fixed_bytes::FixedBytes;
+
 // What a writer answers: how many bytes it put at the start of the output, or the number of the
 // refusal.
 #[derive(Clone, Copy)]

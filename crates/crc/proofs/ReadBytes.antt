@@ -1,55 +1,56 @@
--- Some bytes of a string, from a place on, as a number.
-use mathlib.Core.Path.{◌≡◌, sym, ap, ap₂, ◌∙◌}
-use mathlib.Core.List.{List, [], ◌∷◌, ◌++◌}
-use Prim.Native.Nat.{ℕ, suc, ◌+◌, ◌*◌, ◌≤◌, ◌<◌}
-use native.Mathlib.Numerals.{add-one}
+-- Eight bytes as a number, and the parts of so many bytes that a string has.
+use mathlib.Core.Path.{◌≡◌, refl, sym, ap, ap₂, ◌∙◌}
+use mathlib.Core.List.{List, [], ◌∷◌}
+use Prim.Native.Nat.{ℕ, zero, suc, ◌+◌, ◌*◌, ◌≤◌, ◌<◌}
 use native.Mathlib.Omega.{arith}
 use lib.ListN.{length, take, drop, get_or, length-drop}
-use lib.Seq.{drop-cons, drop-drop, get_or-drop, get_or-take, length-take-le, take-add}
+use lib.Seq.{drop-drop, length-take-le}
+use Rattle.std.specs.Int.{w64, from_be_bytes}
+use Rattle.std.specs.Simd.{first_chunks}
+use Rattle.std.proofs.lemmas.Slice.Eq.{text_from_reads}
 use Rattle.slices.specs.Bits.{Bytes}
-use Rattle.slices.specs.HighFirst.{word_of, pair_of, high_first}
+use Rattle.slices.specs.HighFirst.{word_of, high_first}
 use Rattle.slices.proofs.HighFirstLaws.{bytes_back}
+use Rattle.crc.specs.Crc.{crc_of}
+use Rattle.crc.proofs.CrcLaws.{part_added}
 
--- the first of some bytes from a place on
-next : (s : List ℕ) (i j : ℕ) (more : ℕ) → i + 1 ≡ j → i < length s → take (suc more) (drop i s) ≡ get_or s i 0 ∷ take more (drop j s)
-next s i j more e h =
-    ap (take (suc more)) (drop-cons s i 0 h) ∙ ap (λ (k : ℕ). get_or s i 0 ∷ take more (drop k s)) (sym (add-one i) ∙ e)
+-- the number of eight bytes has them as its bytes
+pub eight_read : (bytes : List ℕ) (word : ℕ) → length bytes ≡ 8 → Bytes bytes → word ≡ from_be_bytes w64 bytes → high_first 8 word ≡ bytes
+eight_read bytes word size small e =
+    ap₂ high_first (sym size) (e ∙ read) ∙ bytes_back bytes (λ k below. small k) (omega arith)
+  where
+    spelled : bytes ≡ get_or bytes 0 0 ∷ get_or bytes 1 0 ∷ get_or bytes 2 0 ∷ get_or bytes 3 0 ∷ get_or bytes 4 0 ∷ get_or bytes 5 0 ∷ get_or bytes 6 0 ∷ get_or bytes 7 0 ∷ []
+    spelled = text_from_reads bytes _ size (refl, (refl, (refl, (refl, (refl, (refl, (refl, (refl, tt))))))))
 
-pub two : (s : List ℕ) (i : ℕ) → i + 2 ≤ length s → take 2 (drop i s) ≡ get_or s i 0 ∷ get_or s (i + 1) 0 ∷ []
-two s i h = rw (next s i (i + 1) 1 (omega arith) (omega arith), next s (i + 1) (i + 2) 0 (omega arith) (omega arith))
+    read : from_be_bytes w64 bytes ≡ word_of bytes
+    read = sym (ap word_of spelled ∙ omega arith)
 
-four : (s : List ℕ) (i : ℕ) → i + 4 ≤ length s → take 4 (drop i s) ≡ get_or s i 0 ∷ get_or s (i + 1) 0 ∷ get_or s (i + 2) 0 ∷ get_or s (i + 3) 0 ∷ []
-four s i h =
-    rw (
-      next s i (i + 1) 3 (omega arith) (omega arith),
-      next s (i + 1) (i + 2) 2 (omega arith) (omega arith),
-      next s (i + 2) (i + 3) 1 (omega arith) (omega arith),
-      next s (i + 3) (i + 4) 0 (omega arith) (omega arith),
-    )
+-- a part of a string is as many of its bytes, from its place on
+part_at : (size : ℕ) (count : ℕ) (s : List ℕ) (i : ℕ) → i < count → get_or (first_chunks size count s) i [] ≡ take size (drop (i * size) s)
+part_at size zero s i h = absurd (omega arith)
+part_at size (suc count) s zero h = let none : zero * size ≡ 0 = omega arith in rw none
+part_at size (suc count) s (suc i) h =
+    let next : suc i * size ≡ size + i * size = omega arith in
+    part_at size count (drop size s) i (omega arith) ∙ rw (next, drop-drop (i * size) size s)
 
-module _ (s : List ℕ) (i : ℕ) where
-  pub four_read : (high low : ℕ) → i + 4 ≤ length s → high ≡ pair_of (get_or s i 0) (get_or s (i + 1) 0) → low ≡ pair_of (get_or s (i + 2) 0) (get_or s (i + 3) 0)
-      → high * 0x10000 + low ≡ word_of (take 4 (drop i s))
-  four_read high low h e f = omega arith ∙ sym (ap word_of (four s i h))
+-- one part less to add
+pub part_read : (size count : ℕ) (s : List ℕ) (i r next : ℕ) → i < count → next ≡ crc_of r (get_or (first_chunks size count s) i [])
+    → crc_of next (drop ((i + 1) * size) s) ≡ crc_of r (drop (i * size) s)
+part_read size count s i r next h e =
+    let behind : (i + 1) * size ≡ i * size + size = omega arith in
+    rw (e, part_at size count s i h, behind) (part_added s (i * size) size r)
 
-  pub eight_read : (high low : ℕ) → i + 8 ≤ length s → high ≡ word_of (take 4 (drop i s)) → low ≡ word_of (take 4 (drop (i + 4) s))
-      → high * 0x100000000 + low ≡ word_of (take 8 (drop i s))
-  eight_read high low h e f =
-      let first = four s i (omega arith) in
-      let second = four s (i + 4) (omega arith) in
-      let halves : take 8 (drop i s) ≡ take 4 (drop i s) ++ take 4 (drop (i + 4) s) =
-      take-add 4 4 (drop i s) ∙ ap (λ (l : List ℕ). take 4 (drop i s) ++ take 4 l) (drop-drop 4 i s) in
-      rw (halves, e, f, first, second) (omega arith)
+-- one pair of bytes less to add
+pub pair_read : (count : ℕ) (s : List ℕ) (i r next : ℕ) → i < count → count * 2 ≤ length s
+    → next ≡ crc_of r (get_or (get_or (first_chunks 2 count s) i []) 0 0 ∷ get_or (get_or (first_chunks 2 count s) i []) 1 0 ∷ [])
+    → crc_of next (drop ((i + 1) * 2) s) ≡ crc_of r (drop (i * 2) s)
+pair_read count s i r next h fits e = part_read 2 count s i r next h (e ∙ ap (crc_of r) (sym spelled))
+  where
+    pair : List ℕ
+    pair = get_or (first_chunks 2 count s) i []
 
-  -- the number of some bytes has them as its bytes
-  pub read_bytes : (more number : ℕ) → Bytes s → i + suc more ≤ length s → number ≡ word_of (take (suc more) (drop i s))
-      → high_first (suc more) number ≡ take (suc more) (drop i s)
-  read_bytes more number small h e =
-      ap₂ high_first (sym size) e
-      ∙ bytes_back part (λ k below. rw (get_or-take (suc more) (drop i s) k 0 (omega (arith, size)), get_or-drop i s k 0) (small (i + k))) (omega (arith, size))
-    where
-      part : List ℕ
-      part = take (suc more) (drop i s)
+    size : length (get_or (first_chunks 2 count s) i []) ≡ 2
+    size = ap length (part_at 2 count s i h) ∙ length-take-le 2 (drop (i * 2) s) (rw length-drop (omega arith))
 
-      size : length (take (suc more) (drop i s)) ≡ suc more
-      size = length-take-le (suc more) (drop i s) (rw length-drop (omega arith))
+    spelled : get_or (first_chunks 2 count s) i [] ≡ get_or (get_or (first_chunks 2 count s) i []) 0 0 ∷ get_or (get_or (first_chunks 2 count s) i []) 1 0 ∷ []
+    spelled = text_from_reads pair _ size (refl, (refl, tt))

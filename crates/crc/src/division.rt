@@ -1,26 +1,13 @@
 // Bytes added to the register at once, by a division.
-ghost use Rattle.std.specs.Prelude.{◌≡◌, ◌+◌, ◌≤◌, length, take, drop};
-ghost use Rattle.slices.specs.HighFirst.{word_of, high_first};
+ghost use Rattle.std.specs.Prelude.{◌≡◌};
+ghost use Rattle.slices.specs.HighFirst.{high_first};
 ghost use Rattle.crc.specs.Crc.{crc_of};
 
-// The register after the eight bytes from the place `at` on.
-pub(crate) fn add_eight(register: u16, bytes: &[u8], at: usize) -> u16
-    requires { at + 8 ≤ length bytes.now }
-    ensures { result ≡ crc_of register (take 8 (drop at bytes.now)) }
+// The register after eight bytes more.
+pub(crate) fn add_eight(register: u16, bytes: &[u8; 8]) -> u16
+    ensures { result ≡ crc_of register bytes.now }
 {
-    let high = four_at(bytes, at) as u64;
-    let low = four_at(bytes, at + 4) as u64;
-    add_word(register, high * 0x100000000 + low)
-}
-
-// The four bytes from the place `at` on as a number, high byte first.
-fn four_at(bytes: &[u8], at: usize) -> u32
-    requires { at + 4 ≤ length bytes.now }
-    ensures { result ≡ word_of (take 4 (drop at bytes.now)) }
-{
-    let high = slices::pair(bytes[at], bytes[at + 1]) as u32;
-    let low = slices::pair(bytes[at + 2], bytes[at + 3]) as u32;
-    high * 0x10000 + low
+    add_word(register, u64::from_be_bytes(*bytes))
 }
 
 // The register after the eight bytes of a word more. The register is added to the first two of them,

@@ -18,12 +18,11 @@ pub fn check(start: u16, bytes: &[u8]) -> u16
     ensures { result ≡ crc_of start bytes.now }
 {
     let mut register = start;
-    let mut at: usize = 0;
-    while 8 <= bytes.len() - at {
-        register = add_eight(register, bytes, at);
-        at += 8;
+    let (eights, rest) = bytes.as_chunks::<8>();
+    for eight in eights {
+        register = add_eight(register, eight);
     }
-    check_by_two(register, &bytes[at..])
+    check_by_two(register, rest)
 }
 
 // The same, two bytes at a time. The table is lent only where a byte is left.
@@ -31,15 +30,14 @@ fn check_by_two(start: u16, bytes: &[u8]) -> u16
     ensures { result ≡ crc_of start bytes.now }
 {
     let mut register = start;
-    let mut at: usize = 0;
-    while 2 <= bytes.len() - at {
-        register = check_pair(register, bytes[at], bytes[at + 1]);
-        at += 2;
+    let (pairs, rest) = bytes.as_chunks::<2>();
+    for pair in pairs {
+        register = check_pair(register, pair[0], pair[1]);
     }
-    if at == bytes.len() {
+    if rest.is_empty() {
         return register;
     }
-    check_by_table(register, &bytes[at..])
+    check_by_table(register, rest)
 }
 
 // The CRC of two bytes.

@@ -42,10 +42,8 @@ fn add_bytes(table: &[u16; 256], start: u16, bytes: &[u8]) -> u16
     ensures { result ≡ crc_of start bytes.now }
 {
     let mut register = start;
-    let mut i: usize = 0;
-    while i < bytes.len() {
-        register = add_byte(table, register, bytes[i]);
-        i += 1;
+    for byte in bytes {
+        register = add_byte(table, register, *byte);
     }
     register
 }

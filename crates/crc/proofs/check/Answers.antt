@@ -1,14 +1,14 @@
-use mathlib.Core.Path.{ap, ◌∙◌}
+use mathlib.Core.Path.{◌≡◌, ◌∙◌}
+use Prim.Native.Nat.{◌/◌}
 use native.Mathlib.Omega.{arith}
-use Rattle.slices.proofs.PartLaws.{part_rest}
-use Rattle.crc.specs.Crc.{crc_of}
-use Rattle.crc.proofs.CrcLaws.{part_added}
+use lib.ListN.{length}
+use Rattle.std.specs.Simd.{first_chunks}
+use Rattle.crc.proofs.ReadBytes.{part_read}
 use Rattle.crc.proofs.check.Goals as goal
 
-pub loop-at-preserved : goal.loop-at-preserved
-loop-at-preserved c =
-    (omega arith, rw c.add_eight-register.ensures (part_added c.args.bytes.now c.loop-at.at 8 c.loop-at.register ∙ c.loop-at.invariant.1))
-
-pub returns : goal.returns
-returns c =
-    c.check_by_two.ensures ∙ ap (crc_of c.loop-at.register) (part_rest c.args.bytes.now c.loop-at.at) ∙ c.loop-at.invariant.1
+pub loop-eight-preserved : goal.loop-eight-preserved
+loop-eight-preserved c =
+    let parts : c.as_chunks.result.0.now ≡ first_chunks 8 (length c.args.bytes.now / 8) c.args.bytes.now = c.as_chunks.ensures.front in
+    part_read 8 (length c.args.bytes.now / 8) c.args.bytes.now c.loop-eight.eight-index c.loop-eight.register c.add_eight-register.result (omega arith)
+    (rw (← parts) c.add_eight-register.ensures)
+    ∙ c.loop-eight.invariant

@@ -17,10 +17,8 @@ fn check(start: u16, bytes: &[u8]) -> u16
     ensures { result ≡ crc_of start bytes.now }
 {
     let mut register = start;
-    let mut i: usize = 0;
-    while i < bytes.len() {
-        register = add_byte(register, bytes[i]);
-        i += 1;
+    for byte in bytes {
+        register = add_byte(register, *byte);
     }
     register
 }
@@ -31,10 +29,8 @@ fn add_byte(register: u16, byte: u8) -> u16
 {
     let high = (byte as u16) * 0x100;
     let mut next = register ^ high;
-    let mut bit: usize = 0;
-    while bit < 8 {
+    for _ in 0..8u8 {
         next = shift_bit(next);
-        bit += 1;
     }
     next
 }

@@ -11,13 +11,11 @@ shift_one i r h =
     let e : 8 - i ≡ suc (8 - (i + 1)) = omega arith in
     rw e
 
-pub loop-bit-preserved : goal.loop-bit-preserved
-loop-bit-preserved c =
-    let more : c.loop-bit.bit < 8 = omega arith in
-    (omega arith, rw c.shift_bit-next.ensures (shift_one c.loop-bit.bit c.loop-bit.next more ∙ c.loop-bit.invariant.1))
+pub loop-preserved : goal.loop-preserved
+loop-preserved c = rw c.shift_bit-next.ensures (shift_one c.loop.counter c.loop.next (omega arith) ∙ c.loop.invariant)
 
 pub returns : goal.returns
 unfolding add_byte shift_bits
 returns c =
-    let none : 8 - c.loop-bit.bit ≡ 0 = omega arith in
-    rw none at c.loop-bit.invariant.1
+    let none : 8 - c.loop.counter ≡ 0 = omega arith in
+    rw none at c.loop.invariant

@@ -1,29 +1,14 @@
--- Eight bytes as a number, and the parts of so many bytes that a string has.
-use mathlib.Core.Path.{◌≡◌, refl, sym, ap, ap₂, ◌∙◌}
+-- The parts of so many bytes each that a string has, one after the other.
+use mathlib.Core.Path.{◌≡◌, refl, sym, ap, ◌∙◌}
 use mathlib.Core.List.{List, [], ◌∷◌}
 use Prim.Native.Nat.{ℕ, zero, suc, ◌+◌, ◌*◌, ◌≤◌, ◌<◌}
 use native.Mathlib.Omega.{arith}
 use lib.ListN.{length, take, drop, get_or, length-drop}
 use lib.Seq.{drop-drop, length-take-le}
-use Rattle.std.specs.Int.{w64, from_be_bytes}
 use Rattle.std.specs.Simd.{first_chunks}
 use Rattle.std.proofs.lemmas.Slice.Eq.{text_from_reads}
-use Rattle.slices.specs.Bits.{Bytes}
-use Rattle.slices.specs.HighFirst.{word_of, high_first}
-use Rattle.slices.proofs.HighFirstLaws.{bytes_back}
 use Rattle.crc.specs.Crc.{crc_of}
 use Rattle.crc.proofs.CrcLaws.{part_added}
-
--- the number of eight bytes has them as its bytes
-pub eight_read : (bytes : List ℕ) (word : ℕ) → length bytes ≡ 8 → Bytes bytes → word ≡ from_be_bytes w64 bytes → high_first 8 word ≡ bytes
-eight_read bytes word size small e =
-    ap₂ high_first (sym size) (e ∙ read) ∙ bytes_back bytes (λ k below. small k) (omega arith)
-  where
-    spelled : bytes ≡ get_or bytes 0 0 ∷ get_or bytes 1 0 ∷ get_or bytes 2 0 ∷ get_or bytes 3 0 ∷ get_or bytes 4 0 ∷ get_or bytes 5 0 ∷ get_or bytes 6 0 ∷ get_or bytes 7 0 ∷ []
-    spelled = text_from_reads bytes _ size (refl, (refl, (refl, (refl, (refl, (refl, (refl, (refl, tt))))))))
-
-    read : from_be_bytes w64 bytes ≡ word_of bytes
-    read = sym (ap word_of spelled ∙ omega arith)
 
 -- a part of a string is as many of its bytes, from its place on
 part_at : (size : ℕ) (count : ℕ) (s : List ℕ) (i : ℕ) → i < count → get_or (first_chunks size count s) i [] ≡ take size (drop (i * size) s)

@@ -2,15 +2,11 @@
 use mathlib.Core.Path.{◌≡◌, ap, ◌∙◌}
 use mathlib.Core.List.{[], ◌∷◌}
 use native.Mathlib.Omega.{arith}
-use lib.Bits.{xor_lt}
 use Rattle.slices.specs.HighFirst.{high_first}
 use Rattle.slices.proofs.HighFirstLaws.{pair_bytes}
 use Rattle.crc.specs.Crc.{crc_of}
 use Rattle.crc.proofs.DivisionLaws.{pair_added}
 use Rattle.crc.proofs.check_pair.Goals as goal
-
-pub overflow_cast-word : goal.overflow_cast-word
-overflow_cast-word c = record { fits = omega (arith, xor_lt 16 c.args.start c.pair.result (omega arith) (omega arith)) }
 
 pub returns : goal.returns
 returns c =

@@ -1,5 +1,5 @@
 -- The item that bytes begin with, by the tests of the code: they tell the cases of the item rule apart.
-use mathlib.Core.Path.{◌≡◌, refl}
+use mathlib.Core.Path.{◌≡◌, refl, subst}
 use mathlib.Core.Bool.{Bool, true, false, cond, ◌&&◌}
 use mathlib.Core.List.{List, [], ◌∷◌}
 use mathlib.Core.Option.{none}
@@ -9,13 +9,14 @@ use lib.Dec.{leb, eqb}
 use lib.ListN.{length, get_or, take, drop, length-drop}
 use lib.Seq.{length-take-le}
 use borrow.Author.Tests.{le-leb, leb-true}
+use Rattle.std.specs.Prelude.{Some, None}
 use Rattle.slices.proofs.Impossible.{impossible}
 use Rattle.slices.proofs.TestLaws.{Both, both}
 use Rattle.packet.specs.ItemTypes.{eof_kind}
 use Rattle.packet.specs.Items.{Item, in_front, empty_if_eof, items_of}
 use Rattle.packet.specs.Answers.{placed, past}
 use Rattle.packet.specs.ReaderSteps.{begins_with_item, item_from}
-use Rattle.packet.specs.declared.items.Found.TheVariants.{At, Nothing}
+use Rattle.packet.specs.declared.items.Item as code
 use Rattle.packet.proofs.ItemLaws.{good_cut, good_rule}
 
 -- the item that bytes begin with
@@ -72,32 +73,36 @@ broken (kind ∷ size ∷ rest) more h = cases (leb size (length rest)) refl
         let test : cond (eqb kind eof_kind) (eqb size 0) true ≡ false = rw (more, long) at h in
         rw (good_rule kind size rest, e, eof_test kind size rest fits, test)
 
--- bytes that begin with an item, as the reader finds it
-pub record Begins (at : ℕ) (bytes : List ℕ) (kind start size : ℕ) : Type 0 where
-  pub begins : begins_with_item bytes ≡ true
-  pub starts : start ≡ at + 2
-  pub sized : get_or bytes 1 0 ≡ size
-  pub kinded : get_or bytes 0 0 ≡ kind
-  pub is : placed at (first_item bytes) ≡ At kind start size
-  pub passed : past at (first_item bytes) ≡ start + size
+-- the item that bytes begin with, as the reader finds it from the place at on
+abbrev here : ℕ → List ℕ → code.Item
+here at bytes = record { kind = get_or bytes 0 0; start = at + 2; length = get_or bytes 1 0 }
 
-pub begins_with : (at : ℕ) (bytes : List ℕ) (kind start size : ℕ) → item_from at bytes ≡ At kind start size → Begins at bytes kind start size
+-- bytes that begin with an item
+pub record Begins (at : ℕ) (bytes : List ℕ) (found : code.Item) : Type 0 where
+  pub begins : begins_with_item bytes ≡ true
+  pub starts : found.start ≡ at + 2
+  pub sized : get_or bytes 1 0 ≡ found.length
+  pub kinded : get_or bytes 0 0 ≡ found.kind
+  pub is : placed at (first_item bytes) ≡ found
+  pub passed : past at (first_item bytes) ≡ found.start + found.length
+
+pub begins_with : (at : ℕ) (bytes : List ℕ) (found : code.Item) → item_from at bytes ≡ Some found → Begins at bytes found
 unfolding item_from placed past
-begins_with at bytes kind start size e = cases (begins_with_item bytes) refl e
+begins_with at bytes found e = cases (begins_with_item bytes) refl e
   where
-    cases : (t : Bool) → begins_with_item bytes ≡ t → cond t (At (get_or bytes 0 0) (at + 2) (get_or bytes 1 0)) Nothing ≡ At kind start size → Begins at bytes kind start size
+    cases : (t : Bool) → begins_with_item bytes ≡ t → cond t (Some (here at bytes)) None ≡ Some found → Begins at bytes found
     cases false h e = impossible cc
     cases true h e =
         let room : get_or bytes 1 0 + 2 ≤ length bytes = begins_room bytes h in
         let fits : length (take (get_or bytes 1 0) (drop 2 bytes)) ≡ get_or bytes 1 0 = length-take-le (get_or bytes 1 0) (drop 2 bytes) (simp length-drop (omega arith)) in
-        let starts : start ≡ at + 2 = cc in
-        let sized : get_or bytes 1 0 ≡ size = cc in
-        record { begins = h; starts = starts; sized = sized; kinded = cc; is = rw fits e; passed = rw fits (omega arith) }
+        let same : here at bytes ≡ found = cc in
+        subst (λ (f : code.Item). Begins at bytes f) same
+        (record { begins = h; starts = refl; sized = refl; kinded = refl; is = rw fits; passed = rw fits (omega arith) })
 
-pub begins_not : (at : ℕ) (bytes : List ℕ) → item_from at bytes ≡ Nothing → begins_with_item bytes ≡ false
+pub begins_not : (at : ℕ) (bytes : List ℕ) → item_from at bytes ≡ None → begins_with_item bytes ≡ false
 unfolding item_from
 begins_not at bytes e = cases (begins_with_item bytes) refl e
   where
-    cases : (t : Bool) → begins_with_item bytes ≡ t → cond t (At (get_or bytes 0 0) (at + 2) (get_or bytes 1 0)) Nothing ≡ Nothing → begins_with_item bytes ≡ false
+    cases : (t : Bool) → begins_with_item bytes ≡ t → cond t (Some (here at bytes)) None ≡ None → begins_with_item bytes ≡ false
     cases false h e = h
     cases true h e = impossible cc

@@ -9,36 +9,36 @@ use native.Mathlib.Omega.{arith}
 use lib.Dec.{eqb}
 use lib.ListN.{length, take, drop, get_or, length-append, take-append-drop}
 use lib.Seq.{take-append_seam, drop-append-add, length-take-le}
+use Rattle.std.specs.Prelude.{Some, None}
 use Rattle.refusals.specs.Numbers.{no_data_packet}
 use Rattle.slices.proofs.Impossible.{impossible}
 use Rattle.slices.specs.HighFirst.{pair_of}
 use Rattle.packet.specs.Items.{Item, items_of, item_bytes, items_bytes, head_of, first_of, value_bytes, value_in, behind_of}
 use Rattle.packet.specs.Packet.{refused, is_data, with_items, packet_of, judged_items, packet_items}
-use Rattle.packet.specs.Answers.{placed, past, head_in, find_in, behind_in, item_at}
-use Rattle.packet.specs.declared.items.Found.{Found}
-use Rattle.packet.specs.declared.items.Found.TheVariants.{At, Nothing}
+use Rattle.packet.specs.Answers.{Found, placed, past, head_in, find_in, behind_in, item_at}
+use Rattle.packet.specs.declared.items.Item as code
 use Rattle.packet.proofs.ItemLaws.{items_fill}
 use Rattle.packet.proofs.PacketLaws.{data_length}
 
 -- an answer whose item lies within the bytes and is the one wanted
 pub record Reads (bytes : List ℕ) (found : Found) (item : Option Item) : Type 0 where
   pub same : item_at bytes found ≡ item
-  pub within : (kind start size : ℕ) → found ≡ At kind start size → start + size ≤ length bytes
+  pub within : (place : code.Item) → found ≡ Some place → place.start + place.length ≤ length bytes
 
-nothing_reads : (bytes : List ℕ) → Reads bytes Nothing none
+nothing_reads : (bytes : List ℕ) → Reads bytes None none
 unfolding item_at
-nothing_reads bytes = record { same = refl; within = λ kind start size e. impossible cc }
+nothing_reads bytes = record { same = refl; within = λ place e. impossible cc }
 
 -- an item behind some bytes
 module _ (before : List ℕ) (item : Item) (items : List Item) where
-  placed_reads : Reads (before ++ items_bytes (item ∷ items)) (placed (length before) item) (some item)
+  placed_reads : Reads (before ++ items_bytes (item ∷ items)) (Some (placed (length before) item)) (some item)
   unfolding item_at placed items_bytes item_bytes
   placed_reads =
       record {
         same = rw (drop-append-add before (item.kind ∷ length item.value ∷ item.value ++ items_bytes items) 2, take-append_seam item.value (items_bytes items));
-        within = λ kind start size e.
-            let s : length before + 2 ≡ start = cc in
-            let n : length item.value ≡ size = cc in
+        within = λ place e.
+            let s : length before + 2 ≡ place.start = cc in
+            let n : length item.value ≡ place.length = cc in
             let outer : length (before ++ (item.kind ∷ length item.value ∷ item.value ++ items_bytes items)) ≡ length before + length (item.kind ∷ length item.value ∷ item.value ++ items_bytes items) = length-append before (item.kind ∷ length item.value ∷ item.value ++ items_bytes items) in
             let inner : length (item.value ++ items_bytes items) ≡ length item.value + length (items_bytes items) = length-append item.value (items_bytes items) in
             omega arith;
@@ -69,7 +69,7 @@ unfolding find_in first_of
 first_reads kind before [] = nothing_reads (before ++ items_bytes [])
 first_reads kind before (item ∷ items) =
     let rest = rw (bytes_on before item items, place_on before item items) at (first_reads kind (before ++ item_bytes item) items) in
-    either (eqb item.kind kind) (before ++ items_bytes (item ∷ items)) (placed (length before) item) (find_in (past (length before) item) kind items) (some item) (first_of kind items) (placed_reads before item items) rest
+    either (eqb item.kind kind) (before ++ items_bytes (item ∷ items)) (Some (placed (length before) item)) (find_in (past (length before) item) kind items) (some item) (first_of kind items) (placed_reads before item items) rest
 
 behind_reads : (kind : ℕ) (before : List ℕ) (items : List Item) → Reads (before ++ items_bytes items) (behind_in (length before) kind items) (behind_of kind items)
 unfolding behind_in behind_of

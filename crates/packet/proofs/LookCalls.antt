@@ -7,9 +7,8 @@ use lib.ListN.{length}
 use Rattle.slices.proofs.Lent.{Slice, lent, InCall, in_call}
 use Rattle.packet.specs.Items.{count_of, first_of, value_bytes, value_in, behind_of}
 use Rattle.packet.specs.Packet.{head_length, Packet, packet, refused, packet_of, judged_items, packet_items}
-use Rattle.packet.specs.Answers.{reading_of, find_in, behind_in, item_at, look_of}
+use Rattle.packet.specs.Answers.{Found, reading_of, find_in, behind_in, item_at, look_of}
 use Rattle.packet.specs.ReaderSteps.{refused_look}
-use Rattle.packet.specs.declared.items.Found.{Found}
 use Rattle.packet.specs.declared.reading.Look.{Look}
 use Rattle.packet.specs.declared.reading.Reading.{Reading}
 use Rattle.packet.specs.declared.reading.Reading.TheVariants as reading

@@ -8,19 +8,19 @@ use Prim.Native.Nat.{ℕ, suc, ◌+◌}
 use native.Mathlib.Omega.{arith}
 use lib.Dec.{eqb}
 use lib.ListN.{length}
+use Rattle.std.specs.Prelude.{Some, None}
+use Rattle.std.specs.Option.{option_or}
 use Rattle.packet.specs.Items.{Item, in_front, count_of}
-use Rattle.packet.specs.Answers.{placed, past, head_in, find_in, behind_in}
-use Rattle.packet.specs.ReaderSteps.{earlier, behind_first, no_items, with_item, tally_of}
-use Rattle.packet.specs.declared.items.Found.{Found}
-use Rattle.packet.specs.declared.items.Found.TheVariants.{At, Nothing}
+use Rattle.packet.specs.Answers.{Found, placed, past, head_in, find_in, behind_in}
+use Rattle.packet.specs.ReaderSteps.{behind_first, no_items, with_item, tally_of}
 use Rattle.packet.specs.declared.items.Survey.{Survey}
 use Rattle.packet.specs.declared.items.Tally.{Tally}
 use Rattle.packet.specs.declared.items.Tally.TheVariants.{Items, Broken}
 
 -- of further items, the one right behind the first of the kind: their head, if that first one stands before them
 abbrev next_to : Found → ℕ → ℕ → List Item → Found
-next_to (At k start size) at kind items = head_in at items
-next_to Nothing at kind items = behind_in at kind items
+next_to (Some first) at kind items = head_in at items
+next_to None at kind items = behind_in at kind items
 
 -- some items, and further ones behind them that stand from the place at on
 abbrev followed : Survey → ℕ → ℕ → List Item → Survey
@@ -28,8 +28,8 @@ followed survey at kind items =
     record {
       all = survey.all + length items;
       count = survey.count + count_of kind items;
-      first = earlier survey.first (find_in at kind items);
-      behind = earlier survey.behind (next_to survey.first at kind items);
+      first = option_or survey.first (find_in at kind items);
+      behind = option_or survey.behind (next_to survey.first at kind items);
     }
 
 -- what is found where some items are read, and the further ones are read or could not be
@@ -37,22 +37,22 @@ unfoldable pub tally_from : Survey → ℕ → ℕ → Option (List Item) → Ta
 tally_from survey at kind none = Broken
 tally_from survey at kind (some items) = Items (followed survey at kind items)
 
-first_on : (found : Found) (at : ℕ) (item : Item) (t : Bool) (rest : Found) → earlier (cond t (earlier found (placed at item)) found) rest ≡ earlier found (cond t (placed at item) rest)
+first_on : (found : Found) (at : ℕ) (item : Item) (t : Bool) (rest : Found) → option_or (cond t (option_or found (Some (placed at item))) found) rest ≡ option_or found (cond t (Some (placed at item)) rest)
 unfolding placed
-first_on (At kind start size) at item true rest = refl
-first_on (At kind start size) at item false rest = refl
-first_on Nothing at item true rest = refl
-first_on Nothing at item false rest = refl
+first_on (Some found) at item true rest = refl
+first_on (Some found) at item false rest = refl
+first_on None at item true rest = refl
+first_on None at item false rest = refl
 
 behind_on : (first behind : Found) (at kind : ℕ) (item : Item) (items : List Item) (t : Bool) → eqb item.kind kind ≡ t →
-    earlier (behind_first first behind (placed at item)) (next_to (cond t (earlier first (placed at item)) first) (past at item) kind items)
-    ≡ earlier behind (next_to first at kind (item ∷ items))
+    option_or (behind_first first behind (placed at item)) (next_to (cond t (option_or first (Some (placed at item))) first) (past at item) kind items)
+    ≡ option_or behind (next_to first at kind (item ∷ items))
 unfolding placed head_in behind_in
-behind_on (At k start size) (At k' start' size') at kind item items t e = refl
-behind_on (At k start size) Nothing at kind item items true e = refl
-behind_on (At k start size) Nothing at kind item items false e = refl
-behind_on Nothing behind at kind item items true e = rw e
-behind_on Nothing behind at kind item items false e = rw e
+behind_on (Some first) (Some behind) at kind item items t e = refl
+behind_on (Some first) None at kind item items true e = refl
+behind_on (Some first) None at kind item items false e = refl
+behind_on None behind at kind item items true e = rw e
+behind_on None behind at kind item items false e = rw e
 
 count_on : (count more : ℕ) (t : Bool) → cond t (count + 1) count + more ≡ count + (cond t 1 0 + more)
 count_on count more true = omega arith
@@ -80,14 +80,14 @@ tally_first at kind (some items) =
     let count : 0 + count_of kind items ≡ count_of kind items = omega arith in
     rw (all, count)
 
-nothing_later : (found : Found) → earlier found Nothing ≡ found
-nothing_later (At kind start size) = refl
-nothing_later Nothing = refl
+nothing_later : (found : Found) → option_or found None ≡ found
+nothing_later (Some found) = refl
+nothing_later None = refl
 
-nothing_next : (found : Found) (at kind : ℕ) → next_to found at kind [] ≡ Nothing
+nothing_next : (found : Found) (at kind : ℕ) → next_to found at kind [] ≡ None
 unfolding head_in behind_in
-nothing_next (At k start size) at kind = refl
-nothing_next Nothing at kind = refl
+nothing_next (Some found) at kind = refl
+nothing_next None at kind = refl
 
 -- behind the last one all is found
 pub tally_last : (survey : Survey) (at kind : ℕ) → tally_from survey at kind (some []) ≡ Items survey

@@ -1,12 +1,12 @@
 -- What the steps of the item reader answer. The laws in proofs/ tie these to the rule of Items.
-use Rattle.std.specs.Prelude.{ℕ, ◌+◌, ◌^◌, ◌<◌, Bool, true, cond, ◌&&◌, List, leb, eqb, length, get_or}
+use Rattle.std.specs.Prelude.{ℕ, ◌+◌, ◌^◌, ◌<◌, Bool, true, cond, ◌&&◌, List, leb, eqb, length, get_or, Some, None}
+use Rattle.std.specs.Option.{option_or}
 use Rattle.std.proofs.Math.Option.{Option, none, some}
 use Rattle.slices.specs.HighFirst.{pair_of}
 use Rattle.packet.specs.ItemTypes.{eof_kind}
 use Rattle.packet.specs.Items.{Item, count_of}
-use Rattle.packet.specs.Answers.{find_in, behind_in}
-use Rattle.packet.specs.declared.items.Found.{Found}
-use Rattle.packet.specs.declared.items.Found.TheVariants.{At, Nothing}
+use Rattle.packet.specs.Answers.{Found, find_in, behind_in}
+use Rattle.packet.specs.declared.items.Item as code
 use Rattle.packet.specs.declared.items.Survey.{Survey}
 use Rattle.packet.specs.declared.items.Tally.{Tally}
 use Rattle.packet.specs.declared.items.Tally.TheVariants.{Items, Broken}
@@ -22,33 +22,29 @@ begins_with_item bytes =
 
 -- the item that bytes begin with, where they stand from the place at on
 unfoldable pub item_from : ℕ → List ℕ → Found
-item_from at bytes = cond (begins_with_item bytes) (At (get_or bytes 0 0) (at + 2) (get_or bytes 1 0)) Nothing
-
--- what was found, or else the item
-abbrev pub earlier : Found → Found → Found
-earlier (At kind start size) item = At kind start size
-earlier Nothing item = item
+item_from at bytes =
+    cond (begins_with_item bytes) (Some (record { kind = get_or bytes 0 0; start = at + 2; length = get_or bytes 1 0 })) None
 
 -- the item right behind the first of the kind, with one more item read
-abbrev pub behind_first : Found → Found → Found → Found
-behind_first (At kind start size) behind item = earlier behind item
-behind_first Nothing behind item = behind
+abbrev pub behind_first : Found → Found → code.Item → Found
+behind_first (Some first) behind item = option_or behind (Some item)
+behind_first None behind item = behind
 
 -- before the first item
 abbrev pub no_items : Survey
-no_items = record { all = 0; count = 0; first = Nothing; behind = Nothing }
+no_items = record { all = 0; count = 0; first = None; behind = None }
 
 -- one item more can be counted
 abbrev pub Countable : Survey → Type 0
 Countable survey = (survey.all + 1 < 2 ^ 64) × (survey.count + 1 < 2 ^ 64)
 
 -- some items and one more behind them, which is of the wanted kind or not
-abbrev pub with_item : Survey → Found → Bool → Survey
+abbrev pub with_item : Survey → code.Item → Bool → Survey
 with_item survey item wanted =
     record {
       all = survey.all + 1;
       count = cond wanted (survey.count + 1) survey.count;
-      first = cond wanted (earlier survey.first item) survey.first;
+      first = cond wanted (option_or survey.first (Some item)) survey.first;
       behind = behind_first survey.first survey.behind item;
     }
 
@@ -67,4 +63,4 @@ head_reading bytes = Packet (get_or bytes 1 0) (pair_of (get_or bytes 2 0) (get_
 
 -- a look at a packet that is refused
 abbrev pub refused_look : ℕ → Look
-refused_look number = record { reading = Refused number; all = 0; count = 0; first = Nothing; behind = Nothing }
+refused_look number = record { reading = Refused number; all = 0; count = 0; first = None; behind = None }

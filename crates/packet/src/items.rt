@@ -3,7 +3,7 @@
 ghost use Rattle.std.specs.Prelude.{◌≡◌, ◌≤◌, length, drop};
 ghost use Rattle.packet.specs.Items.{items_of};
 ghost use Rattle.packet.specs.Packet.{head_length};
-ghost use Rattle.packet.specs.ReaderSteps.{begins_with_item, item_from, earlier, behind_first, Countable, with_item, no_items, tally_of};
+ghost use Rattle.packet.specs.ReaderSteps.{begins_with_item, item_from, behind_first, Countable, with_item, no_items, tally_of};
 
 use crate::{EOF_KIND, HEAD_LENGTH};
 
@@ -12,13 +12,10 @@ const ITEM_HEAD: usize = 2;
 
 // An item of a packet: its kind, where in the packet its value starts, and the value's length.
 #[derive(Clone, Copy)]
-pub enum Found {
-    At {
-        kind: u8,
-        start: usize,
-        length: usize,
-    },
-    Nothing,
+pub struct Item {
+    pub kind: u8,
+    pub start: usize,
+    pub length: usize,
 }
 
 // Some items: how many there are, how many of the wanted kind, the first of these, and the item right
@@ -27,8 +24,8 @@ pub enum Found {
 pub(crate) struct Survey {
     pub(crate) all: usize,
     pub(crate) count: usize,
-    pub(crate) first: Found,
-    pub(crate) behind: Found,
+    pub(crate) first: Option<Item>,
+    pub(crate) behind: Option<Item>,
 }
 
 // What the item reader finds, if the items fill the packet.
@@ -46,36 +43,30 @@ pub(crate) fn read_items(s: &[u8], wanted: u8) -> Tally
     let mut survey = no_items();
     let mut at = HEAD_LENGTH;
     while at < s.len() {
-        let item = item_at(s, at);
-        let Found::At {
-            kind,
-            start,
-            length,
-        } = item
-        else {
+        let Some(item) = item_at(s, at) else {
             return Tally::Broken;
         };
-        survey = with_item(survey, item, kind == wanted);
-        at = start + length;
+        survey = with_item(survey, item, item.kind == wanted);
+        at = item.start + item.length;
     }
     Tally::Items(survey)
 }
 
 // The item that the bytes from the place `at` on begin with, if they begin with one.
-fn item_at(s: &[u8], at: usize) -> Found
+fn item_at(s: &[u8], at: usize) -> Option<Item>
     requires { at ≤ length s.now }
     ensures { result ≡ item_from at (drop at s.now) }
 {
     let rest = &s[at..];
     let whole = begins_with_item(rest);
     if !whole {
-        return Found::Nothing;
+        return None;
     }
-    Found::At {
+    Some(Item {
         kind: rest[0],
         start: at + ITEM_HEAD,
         length: rest[1] as usize,
-    }
+    })
 }
 
 // Whether `rest` begins with a whole item, and with an empty one if it is an EOF item.
@@ -102,54 +93,35 @@ fn no_items() -> Survey
     Survey {
         all: 0,
         count: 0,
-        first: Found::Nothing,
-        behind: Found::Nothing,
+        first: None,
+        behind: None,
     }
 }
 
 // The same with one item more behind them, which is of the wanted kind or not.
-fn with_item(survey: Survey, item: Found, wanted: bool) -> Survey
+fn with_item(survey: Survey, item: Item, wanted: bool) -> Survey
     requires { Countable survey }
     ensures { result ≡ with_item survey item wanted }
 {
-    let all = survey.all + 1;
-    let first = survey.first;
-    let next = survey.behind;
-    let behind = behind_first(first, next, item);
-    if !wanted {
-        return Survey {
-            all,
-            count: survey.count,
-            first,
-            behind,
-        };
+    let mut more = Survey {
+        all: survey.all + 1,
+        behind: behind_first(survey, item),
+        ..survey
+    };
+    if wanted {
+        more.count += 1;
+        more.first = more.first.or(Some(item));
     }
-    let count = survey.count + 1;
-    Survey {
-        all,
-        count,
-        first: earlier(first, item),
-        behind,
-    }
+    more
 }
 
 // The item right behind the first of the kind, with one more item read: that item, if the first was
 // the last one read before it.
-fn behind_first(first: Found, behind: Found, item: Found) -> Found
-    ensures { result ≡ behind_first first behind item }
+fn behind_first(survey: Survey, item: Item) -> Option<Item>
+    ensures { result ≡ behind_first survey.first survey.behind item }
 {
-    match first {
-        Found::At { .. } => earlier(behind, item),
-        Found::Nothing => behind,
-    }
-}
-
-// The item that was found first.
-fn earlier(found: Found, item: Found) -> Found
-    ensures { result ≡ earlier found item }
-{
-    match found {
-        Found::At { .. } => found,
-        Found::Nothing => item,
+    match survey.first {
+        Some(_) => survey.behind.or(Some(item)),
+        None => survey.behind,
     }
 }

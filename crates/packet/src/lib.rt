@@ -6,7 +6,7 @@ mod names;
 mod reading;
 mod requests;
 
-pub use items::Found;
+pub use items::Item;
 pub use kinds::{
     BINARY_KIND, BOOLEAN_KIND, CENTS_KIND, EOF_KIND, INTEGER_KIND, LENGTH_KIND, LOCATION_KIND,
     NAME_KIND, OFFSET_KIND,

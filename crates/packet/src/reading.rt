@@ -5,7 +5,7 @@ ghost use Rattle.packet.specs.Packet.{head_length, is_data, packet_of, packet_it
 ghost use Rattle.packet.specs.Answers.{find_in, behind_in, item_at, look_of, reading_of};
 ghost use Rattle.packet.specs.ReaderSteps.{head_reading, refused_look};
 
-use crate::items::{Found, Tally, read_items};
+use crate::items::{Item, Tally, read_items};
 use crate::{DATA, EOF_KIND, HEAD_LENGTH};
 use refusals::{BAD_ITEMS, NO_DATA_PACKET};
 
@@ -24,8 +24,8 @@ pub struct Look {
     pub reading: Reading,
     pub all: usize,
     pub count: usize,
-    pub first: Found,
-    pub behind: Found,
+    pub first: Option<Item>,
+    pub behind: Option<Item>,
 }
 
 // Whether `s` has a data packet's first four bytes.
@@ -49,14 +49,12 @@ pub fn look_for(s: &[u8], kind: u8) -> Look
     let Tally::Items(survey) = read_items(s, kind) else {
         return refused(BAD_ITEMS);
     };
-    let first = survey.first;
-    let behind = survey.behind;
     Look {
         reading: read_head(s),
         all: survey.all,
         count: survey.count,
-        first,
-        behind,
+        first: survey.first,
+        behind: survey.behind,
     }
 }
 
@@ -78,8 +76,8 @@ fn refused(number: u8) -> Look
         reading: Reading::Refused(number),
         all: 0,
         count: 0,
-        first: Found::Nothing,
-        behind: Found::Nothing,
+        first: None,
+        behind: None,
     }
 }
 
@@ -106,14 +104,14 @@ pub fn count(s: &[u8], kind: u8) -> usize
 }
 
 // The first item of the kind in a packet; in a refused one nothing is found.
-pub fn find(s: &[u8], kind: u8) -> Found
+pub fn find(s: &[u8], kind: u8) -> Option<Item>
     ensures { result ≡ find_in head_length kind (packet_items s.now) }
 {
     look_for(s, kind).first
 }
 
 // The item right behind the first item of the kind in a packet; in a refused one nothing is found.
-pub fn behind(s: &[u8], kind: u8) -> Found
+pub fn behind(s: &[u8], kind: u8) -> Option<Item>
     ensures { result ≡ behind_in head_length kind (packet_items s.now) }
 {
     look_for(s, kind).behind
@@ -127,24 +125,14 @@ pub fn value(s: &[u8], kind: u8) -> &[u8]
 }
 
 // The bytes of an item's value, as many of them as the packet has; empty where nothing was found.
-pub fn value_at(s: &[u8], item: Found) -> &[u8]
+pub fn value_at(s: &[u8], item: Option<Item>) -> &[u8]
     ensures { result.now ≡ value_bytes (item_at s.now item) }
 {
-    let Found::At {
-        kind: _,
-        start,
-        length,
-    } = item
-    else {
-        return &s[..0];
+    let Some(Item { start, length, .. }) = item else {
+        return b"";
     };
     if s.len() < start {
-        return &s[..0];
+        return b"";
     }
-    let left = s.len() - start;
-    if left < length {
-        return &s[start..];
-    }
-    let end = start + length;
-    &s[start..end]
+    slices::first(&s[start..], length)
 }

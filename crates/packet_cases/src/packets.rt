@@ -1,6 +1,6 @@
 // Packets as they are read.
 use cases::{line, print};
-use packet::{Found, Reading};
+use packet::{Item, Reading};
 
 // A packet's opcode and id or the refusal, the number of its items and of its Names, the first Name,
 // what stands behind it, and the first EOF, by a function each. All are asked of a refused packet too.
@@ -20,14 +20,11 @@ pub(crate) fn show(rt: &impl Print, line: &[u8], packet: &[u8]) {
 pub(crate) fn show_look(rt: &impl Print, line: &[u8], packet: &[u8], kind: u8) {
     line::label(rt, line);
     let look = packet::look_for(packet, kind);
-    let reading = look.reading;
-    let first = look.first;
-    let behind = look.behind;
-    show_reading(rt, reading);
+    show_reading(rt, look.reading);
     print::number(rt, b", items ", look.all as u64);
     print::number(rt, b", of the kind ", look.count as u64);
-    show_place(rt, b", first", first);
-    show_place(rt, b", behind", behind);
+    show_place(rt, b", first", look.first);
+    show_place(rt, b", behind", look.behind);
     print::text(rt, b"\n");
 }
 
@@ -48,18 +45,14 @@ fn show_places(rt: &impl Print, packet: &[u8]) {
     print::text(rt, b"\n");
 }
 
-fn show_place(rt: &impl Print, label: &[u8], found: Found) {
+fn show_place(rt: &impl Print, label: &[u8], found: Option<Item>) {
     print::text(rt, label);
     match found {
-        Found::At {
-            kind,
-            start,
-            length,
-        } => {
-            print::number(rt, b" kind ", kind as u64);
-            print::number(rt, b" at ", start as u64);
-            print::number(rt, b" length ", length as u64);
+        Some(item) => {
+            print::number(rt, b" kind ", item.kind as u64);
+            print::number(rt, b" at ", item.start as u64);
+            print::number(rt, b" length ", item.length as u64);
         }
-        Found::Nothing => print::text(rt, b" nothing"),
+        None => print::text(rt, b" nothing"),
     }
 }

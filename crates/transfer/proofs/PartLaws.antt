@@ -9,8 +9,7 @@ use borrow.Author.Tests.{ne_eqb, le-leb, lt-leb}
 use Rattle.packet.specs.ItemTypes.{length_kind}
 use Rattle.packet.specs.Items.{count_of, value_bytes, value_in}
 use Rattle.packet.specs.Packet.{head_length, packet_items}
-use Rattle.packet.specs.Answers.{find_in, item_at}
-use Rattle.packet.specs.declared.items.Found.{Found}
+use Rattle.packet.specs.Answers.{Found, find_in, item_at}
 use Rattle.packet.proofs.FoundLaws.{value_found}
 use Rattle.transfer.specs.Fragment.{right_items, is_last, good}
 use Rattle.transfer.specs.Steps.{parts_of, right_parts, fragment_with, as_form}

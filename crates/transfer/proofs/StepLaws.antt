@@ -5,7 +5,7 @@ use mathlib.Core.List.{List}
 use mathlib.Core.Option.{Option, none, some}
 use Prim.Native.Nat.{ℕ}
 use Rattle.slices.proofs.Impossible.{impossible}
-use Rattle.packet.specs.declared.items.Found.{Found}
+use Rattle.packet.specs.Answers.{Found}
 use Rattle.transfer.specs.Fragment.{Form, good, bad}
 use Rattle.transfer.specs.Transfer.{Verdict, accepted, refused}
 use Rattle.transfer.specs.Steps.{parts_of, as_number, fragment_with, as_form, as_verdict}

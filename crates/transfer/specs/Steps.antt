@@ -4,8 +4,7 @@ use Rattle.std.proofs.Math.Option.{Option, none, some}
 use Rattle.packet.specs.ItemTypes.{binary_kind, offset_kind, length_kind, location_kind, eof_kind}
 use Rattle.packet.specs.Items.{count_of}
 use Rattle.packet.specs.Packet.{head_length, packet_items}
-use Rattle.packet.specs.Answers.{find_in, look_of}
-use Rattle.packet.specs.declared.items.Found.{Found}
+use Rattle.packet.specs.Answers.{Found, find_in, look_of}
 use Rattle.packet.specs.declared.reading.Look.{Look}
 use Rattle.transfer.specs.Fragment.{Form, good, bad}
 use Rattle.transfer.specs.Transfer.{Verdict, accepted, refused}

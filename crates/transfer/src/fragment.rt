@@ -7,7 +7,7 @@ ghost use Rattle.transfer.specs.Steps.{as_number, as_form, fragment_with, parts_
 
 use crate::parts::{Parts, right_items};
 use crate::state::Declared;
-use packet::{Found, value_at};
+use packet::{Item, value_at};
 use slices::pair;
 
 // What the bytes of an Offset or a Length say.
@@ -21,8 +21,8 @@ enum Number {
 // beside them.
 #[derive(Clone, Copy)]
 pub(crate) struct Fragment {
-    pub(crate) location: Found,
-    pub(crate) binary: Found,
+    pub(crate) location: Option<Item>,
+    pub(crate) binary: Option<Item>,
     pub(crate) offset: usize,
     pub(crate) declared: Declared,
     pub(crate) last: bool,

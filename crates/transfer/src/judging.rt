@@ -8,7 +8,7 @@ ghost use Rattle.transfer.specs.Steps.{parts_of, as_form, as_verdict};
 use crate::fragment::{Form, Fragment, read_form};
 use crate::parts::find_parts;
 use crate::state::{Declared, Transfer, goes_on, is_of};
-use packet::{Found, LOCATION_KIND, value_at};
+use packet::{Item, LOCATION_KIND, value_at};
 use refusals::{BAD_FRAGMENT, EARLY_END, OTHER_LOCATION, OTHER_OPCODE, PAST_LENGTH, WRONG_OFFSET};
 
 // The opcode of a fragment packet.
@@ -19,7 +19,7 @@ const FRAGMENT: u8 = 0x0b;
 #[derive(Clone, Copy)]
 pub(crate) enum Verdict {
     Accepted {
-        binary: Found,
+        binary: Option<Item>,
         offset: usize,
         next: usize,
         declared: Declared,

@@ -2,7 +2,7 @@
 ghost use Rattle.std.specs.Prelude.{◌≡◌};
 ghost use Rattle.transfer.specs.Steps.{parts_with, right_parts};
 
-use packet::{BINARY_KIND, EOF_KIND, Found, LENGTH_KIND, Look, OFFSET_KIND, look_for};
+use packet::{BINARY_KIND, EOF_KIND, Item, LENGTH_KIND, Look, OFFSET_KIND, look_for};
 
 // How many items each fragment has: Location, Offset, Binary.
 const REQUIRED_ITEMS: usize = 3;
@@ -16,10 +16,10 @@ pub(crate) struct Parts {
     pub(crate) binaries: usize,
     pub(crate) lengths: usize,
     pub(crate) ends: usize,
-    pub(crate) location: Found,
-    pub(crate) offset: Found,
-    pub(crate) binary: Found,
-    pub(crate) length: Found,
+    pub(crate) location: Option<Item>,
+    pub(crate) offset: Option<Item>,
+    pub(crate) binary: Option<Item>,
+    pub(crate) length: Option<Item>,
 }
 
 // The parts of a packet in which Locations have been looked for: four looks more.

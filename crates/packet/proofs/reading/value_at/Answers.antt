@@ -1,9 +1,8 @@
--- `packet::reading::value_at` meets its contract: the four ways to cut what the item asks for to the packet's bytes.
-use mathlib.Core.Path.{◌≡◌}
+-- `packet::reading::value_at` meets its contract: the three ways to cut what the item asks for to the packet's bytes.
 use mathlib.Core.List.{[]}
-use Prim.Native.Nat.{ℕ, ◌+◌, ◌-◌, ◌≤◌}
+use Prim.Native.Nat.{ℕ, ◌≤◌}
 use native.Mathlib.Omega.{arith}
-use lib.ListN.{length, drop, length-drop, drop_of_length-le}
+use lib.ListN.{length, drop_of_length-le}
 use lib.Seq.{take_all}
 use Rattle.slices.proofs.PartLaws.{part_rest}
 use Rattle.packet.specs.Items.{value_bytes}
@@ -17,17 +16,9 @@ returns-in_default c = rw c.in_default.is
 pub returns-then-s-start : goal.returns-then-s-start
 unfolding item_at value_bytes
 returns-then-s-start c =
-    let past : length c.args.s.now ≤ c.in-At.start = omega (arith, c.if-s-start.true) in
-    rw (c.in-At.is, drop_of_length-le c.args.s.now past, take_all {A = ℕ} c.in-At.length [] (omega arith))
-
-pub returns-then-left-length : goal.returns-then-left-length
-unfolding item_at value_bytes
-returns-then-left-length c =
-    let left : length (drop c.in-At.start c.args.s.now) ≤ c.in-At.length = simp length-drop (omega arith) in
-    rw (c.in-At.is, part_rest c.args.s.now c.in-At.start, take_all c.in-At.length (drop c.in-At.start c.args.s.now) left)
+    let past : length c.args.s.now ≤ c.in-Some.field-0.start = omega (arith, c.if-s-start.true) in
+    rw (c.in-Some.is, drop_of_length-le c.args.s.now past, take_all {A = ℕ} c.in-Some.field-0.length [] (omega arith))
 
 pub returns : goal.returns
 unfolding item_at value_bytes
-returns c =
-    let same : (c.in-At.start + c.in-At.length) - c.in-At.start ≡ c.in-At.length = omega arith in
-    rw (c.in-At.is, same)
+returns c = rw c.in-Some.is (rw (part_rest c.args.s.now c.in-Some.field-0.start) at c.first.ensures)

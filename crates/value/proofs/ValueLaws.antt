@@ -18,7 +18,7 @@ use mir.Val.{to_z}
 use mir.ValLaws.{to_z_pos, to_z-neg}
 use Rattle.slices.proofs.Impossible.{impossible}
 use Rattle.slices.specs.HighFirst.{word_from, word_of}
-use Rattle.value.specs.declared.Value.TheVariants.{Number, Bad}
+use Rattle.std.specs.Prelude.{Some, None}
 use Rattle.value.specs.Steps.{least_negative}
 use Rattle.value.specs.Value.{as_value, twos, number_of, boolean_of}
 
@@ -117,10 +117,10 @@ boolean_byte (byte ∷ []) h = refl
 boolean_byte (byte ∷ next ∷ bytes) h = absurd (omega arith)
 
 -- what the code's answer says of the value
-pub value_number : (o : Option ℤ) (number : ℤ) → as_value o ≡ Number number → o ≡ some number
+pub value_number : (o : Option ℤ) (number : ℤ) → as_value o ≡ Some number → o ≡ some number
 value_number (some found) number e = cc
 value_number none number e = impossible cc
 
-pub value_bad : (o : Option ℤ) → as_value o ≡ Bad → o ≡ none
+pub value_bad : (o : Option ℤ) → as_value o ≡ None → o ≡ none
 value_bad (some found) e = impossible cc
 value_bad none e = refl

@@ -1,11 +1,10 @@
 -- 01, Items and packets: "Value types: Integer (02) and Cents (16) of 1, 2, 4 or 8 bytes, signed, high byte first; Boolean
 -- (0f) of one byte, 0 or 1. Others, 03 among them, are refusal 13."
-use Rattle.std.specs.Prelude.{ℕ, ◌*◌, ◌^◌, cond, ◌||◌, List, [], ◌∷◌, eqb, ltb, ℤ, pos, ◌-ℤ◌, length}
+use Rattle.std.specs.Prelude.{ℕ, ◌*◌, ◌^◌, cond, ◌||◌, List, [], ◌∷◌, eqb, ltb, ℤ, pos, ◌-ℤ◌, length, Some, None}
 use Rattle.std.proofs.Math.Option.{Option, some, none}
 use Rattle.slices.specs.HighFirst.{word_of}
 use Rattle.packet.specs.ItemTypes.{integer_kind, boolean_kind, cents_kind}
-use Rattle.value.specs.declared.Value.{Value}
-use Rattle.value.specs.declared.Value.TheVariants.{Number, Bad}
+use Rattle.std.specs.declared.option.Option as rust
 
 -- two's complement: of the full count of words the lower half are themselves, the upper half are less by the full count
 abbrev pub twos : ℕ → ℕ → ℤ
@@ -31,6 +30,6 @@ value_of kind bytes =
     cond (eqb kind integer_kind || eqb kind cents_kind) (number_of bytes) (cond (eqb kind boolean_kind) (boolean_of bytes) none)
 
 -- how the code answers a value
-abbrev pub as_value : Option ℤ → Value
-as_value (some number) = Number number
-as_value none = Bad
+abbrev pub as_value : Option ℤ → rust.Option ℤ
+as_value (some number) = Some number
+as_value none = None

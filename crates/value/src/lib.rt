@@ -6,27 +6,16 @@ ghost use Rattle.value.specs.Value.{twos, number_of, boolean_of, value_of, as_va
 
 use packet::{BOOLEAN_KIND, CENTS_KIND, INTEGER_KIND};
 
-// What a value item says: its number, or that it is no good value.
-#[derive(Clone, Copy)]
-pub enum Value {
-    Number(i64),
-    Bad,
-}
-
-// The value of an item of type `kind` with the value bytes `bytes`.
-pub fn read_value(kind: u8, bytes: &[u8]) -> Value
+// The value of an item of type `kind` with the value bytes `bytes`; none where it is no good value.
+#[tactic(auto, unfolding(crate::specs::Value::value_of))]
+pub fn read_value(kind: u8, bytes: &[u8]) -> Option<i64>
     ensures { result ≡ as_value (value_of kind bytes.now) }
 {
-    if kind == INTEGER_KIND {
-        return number(bytes);
+    match kind {
+        INTEGER_KIND | CENTS_KIND => number(bytes),
+        BOOLEAN_KIND => boolean(bytes),
+        _ => None,
     }
-    if kind == CENTS_KIND {
-        return number(bytes);
-    }
-    if kind == BOOLEAN_KIND {
-        return boolean(bytes);
-    }
-    Value::Bad
 }
 
 // The number without its sign, for a caller that prints it.
@@ -41,14 +30,14 @@ pub fn magnitude(number: i64) -> u64
 }
 
 // A signed number of 1, 2, 4 or 8 bytes, high byte first.
-fn number(bytes: &[u8]) -> Value
+fn number(bytes: &[u8]) -> Option<i64>
     ensures { result ≡ as_value (number_of bytes.now) }
 {
     let half = least_negative(bytes.len());
     if half == 0 {
-        return Value::Bad;
+        return None;
     }
-    Value::Number(signed(word(bytes), half))
+    Some(signed(word(bytes), half))
 }
 
 // The least word of `count` bytes that stands for a negative number; 0 where no number has `count`
@@ -72,20 +61,20 @@ fn least_negative(count: usize) -> u64
 }
 
 // One byte, 0 or 1.
-fn boolean(bytes: &[u8]) -> Value
+fn boolean(bytes: &[u8]) -> Option<i64>
     ensures { result ≡ as_value (boolean_of bytes.now) }
 {
     if bytes.len() != 1 {
-        return Value::Bad;
+        return None;
     }
     let byte = bytes[0];
     if byte == 0 {
-        return Value::Number(0);
+        return Some(0);
     }
     if byte == 1 {
-        return Value::Number(1);
+        return Some(1);
     }
-    Value::Bad
+    None
 }
 
 // The bytes as one unsigned number, high byte first.

@@ -6,7 +6,7 @@ use lib.ListN.{length}
 use mir.Syntax.{w64}
 use mir.Val.{to_z, of_z}
 use mir.Facts.{to_z-of_z}
-use Rattle.value.specs.declared.Value.TheVariants.{Number}
+use Rattle.std.specs.Prelude.{Some}
 use Rattle.value.proofs.ValueLaws.{Wide, wide, number_wide, number_bad}
 use Rattle.value.proofs.number.Goals as goal
 
@@ -28,4 +28,4 @@ pub returns : goal.returns
 returns c =
     let width : Wide (length c.args.bytes.now) = wide (length c.args.bytes.now) (λ e. c.if-half-eq0.false (c.least_negative-half.ensures ∙ e)) in
     let back : to_z w64 (of_z w64 c.signed.result) ≡ c.signed.result = to_z-of_z {w = w64} (record { sfits = c.signed.type_inv }) in
-    rw (number_wide c.args.bytes.now width, back) (ap Number (c.signed.ensures ∙ rw (c.word.ensures.is, c.least_negative-half.ensures)))
+    rw (number_wide c.args.bytes.now width, back) (ap Some (c.signed.ensures ∙ rw (c.word.ensures.is, c.least_negative-half.ensures)))

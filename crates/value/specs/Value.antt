@@ -2,9 +2,9 @@
 -- (0f) of one byte, 0 or 1. Others, 03 among them, are refusal 13."
 use Rattle.std.specs.Prelude.{ℕ, ◌*◌, ◌^◌, cond, ◌||◌, List, [], ◌∷◌, eqb, ltb, ℤ, pos, ◌-ℤ◌, length, Some, None}
 use Rattle.std.proofs.Math.Option.{Option, some, none}
+use Rattle.std.specs.declared.option.Option as rust
 use Rattle.slices.specs.HighFirst.{word_of}
 use Rattle.packet.specs.ItemTypes.{integer_kind, boolean_kind, cents_kind}
-use Rattle.std.specs.declared.option.Option as rust
 
 -- two's complement: of the full count of words the lower half are themselves, the upper half are less by the full count
 abbrev pub twos : ℕ → ℕ → ℤ

@@ -14,7 +14,6 @@ use Rattle.packet.specs.Answers.{placed, past}
 use Rattle.packet.specs.ReaderSteps.{item_from, no_items, with_item, tally_of}
 use Rattle.packet.specs.declared.items.Item as code
 use Rattle.packet.specs.declared.items.Survey.{Survey}
-use Rattle.packet.specs.declared.items.Tally.TheVariants.{Items, Broken}
 use Rattle.packet.proofs.ItemLaws.{good_end}
 use Rattle.packet.proofs.FirstItem.{Begins, first_item, begins_room, whole, broken, begins_with, begins_not}
 use Rattle.packet.proofs.SurveyLaws.{tally_from, tally_on, tally_first, tally_last, tally_broken}
@@ -43,14 +42,14 @@ module _ (bytes : List ℕ) (kind : ℕ) where
 
   module _ (survey : Survey) (at : ℕ) (here : Reached bytes kind survey at) where
     -- neither the end nor an item
-    pub reached_broken : at < length bytes → item_from at (drop at bytes) ≡ None → Broken ≡ tally_of head_length kind (items_of (drop head_length bytes))
+    pub reached_broken : at < length bytes → item_from at (drop at bytes) ≡ None → None ≡ tally_of head_length kind (items_of (drop head_length bytes))
     reached_broken more e =
         let some_left : 0 < length (drop at bytes) = simp length-drop (omega arith) in
         let none_read = broken (drop at bytes) some_left (begins_not at (drop at bytes) e) in
         rw (none_read, tally_broken survey at kind) at here.still
 
     -- the end
-    pub reached_last : length bytes ≤ at → Items survey ≡ tally_of head_length kind (items_of (drop head_length bytes))
+    pub reached_last : length bytes ≤ at → Some survey ≡ tally_of head_length kind (items_of (drop head_length bytes))
     reached_last ended = rw (drop_of_length-le bytes ended, good_end, tally_last survey at kind) at here.still
 
     module _ (item : code.Item) (e : item_from at (drop at bytes) ≡ Some item) where

@@ -10,12 +10,11 @@ use lib.Dec.{eqb}
 use lib.ListN.{length}
 use Rattle.std.specs.Prelude.{Some, None}
 use Rattle.std.specs.Option.{option_or}
+use Rattle.std.specs.declared.option.Option as rust
 use Rattle.packet.specs.Items.{Item, in_front, count_of}
 use Rattle.packet.specs.Answers.{Found, placed, past, head_in, find_in, behind_in}
 use Rattle.packet.specs.ReaderSteps.{behind_first, no_items, with_item, tally_of}
 use Rattle.packet.specs.declared.items.Survey.{Survey}
-use Rattle.packet.specs.declared.items.Tally.{Tally}
-use Rattle.packet.specs.declared.items.Tally.TheVariants.{Items, Broken}
 
 -- of further items, the one right behind the first of the kind: their head, if that first one stands before them
 abbrev next_to : Found → ℕ → ℕ → List Item → Found
@@ -33,9 +32,9 @@ followed survey at kind items =
     }
 
 -- what is found where some items are read, and the further ones are read or could not be
-unfoldable pub tally_from : Survey → ℕ → ℕ → Option (List Item) → Tally
-tally_from survey at kind none = Broken
-tally_from survey at kind (some items) = Items (followed survey at kind items)
+unfoldable pub tally_from : Survey → ℕ → ℕ → Option (List Item) → rust.Option Survey
+tally_from survey at kind none = None
+tally_from survey at kind (some items) = Some (followed survey at kind items)
 
 first_on : (found : Found) (at : ℕ) (item : Item) (t : Bool) (rest : Found) → option_or (cond t (option_or found (Some (placed at item))) found) rest ≡ option_or found (cond t (Some (placed at item)) rest)
 unfolding placed
@@ -90,13 +89,13 @@ nothing_next (Some found) at kind = refl
 nothing_next None at kind = refl
 
 -- behind the last one all is found
-pub tally_last : (survey : Survey) (at kind : ℕ) → tally_from survey at kind (some []) ≡ Items survey
+pub tally_last : (survey : Survey) (at kind : ℕ) → tally_from survey at kind (some []) ≡ Some survey
 unfolding tally_from count_of find_in
 tally_last survey at kind =
     let all : survey.all + 0 ≡ survey.all = omega arith in
     let count : survey.count + 0 ≡ survey.count = omega arith in
     rw (all, count, nothing_next survey.first at kind, nothing_later survey.first, nothing_later survey.behind)
 
-pub tally_broken : (survey : Survey) (at kind : ℕ) → tally_from survey at kind none ≡ Broken
+pub tally_broken : (survey : Survey) (at kind : ℕ) → tally_from survey at kind none ≡ None
 unfolding tally_from
 tally_broken survey at kind = refl

@@ -1,18 +1,15 @@
 -- What the steps of the item reader answer. The laws in proofs/ tie these to the rule of Items.
 use Rattle.std.specs.Prelude.{ℕ, ◌+◌, ◌^◌, ◌<◌, Bool, true, cond, ◌&&◌, List, leb, eqb, length, get_or, Some, None}
 use Rattle.std.specs.Option.{option_or}
+use Rattle.std.specs.declared.option.Option as rust
 use Rattle.std.proofs.Math.Option.{Option, none, some}
-use Rattle.slices.specs.HighFirst.{pair_of}
 use Rattle.packet.specs.ItemTypes.{eof_kind}
 use Rattle.packet.specs.Items.{Item, count_of}
 use Rattle.packet.specs.Answers.{Found, find_in, behind_in}
 use Rattle.packet.specs.declared.items.Item as code
 use Rattle.packet.specs.declared.items.Survey.{Survey}
-use Rattle.packet.specs.declared.items.Tally.{Tally}
-use Rattle.packet.specs.declared.items.Tally.TheVariants.{Items, Broken}
 use Rattle.packet.specs.declared.reading.Look.{Look}
-use Rattle.packet.specs.declared.reading.Reading.{Reading}
-use Rattle.packet.specs.declared.reading.Reading.TheVariants.{Packet, Refused}
+use Rattle.packet.specs.declared.reading.Reading.TheVariants.{Refused}
 
 -- a type byte, a length byte N, and N bytes behind them: none if the type is EOF
 unfoldable pub begins_with_item : List ℕ → Bool
@@ -53,13 +50,10 @@ abbrev pub survey_of : ℕ → ℕ → List Item → Survey
 survey_of at kind items =
     record { all = length items; count = count_of kind items; first = find_in at kind items; behind = behind_in at kind items }
 
-unfoldable pub tally_of : ℕ → ℕ → Option (List Item) → Tally
-tally_of at kind none = Broken
-tally_of at kind (some items) = Items (survey_of at kind items)
-
--- the opcode and the request id in a data packet's first four bytes
-abbrev pub head_reading : List ℕ → Reading
-head_reading bytes = Packet (get_or bytes 1 0) (pair_of (get_or bytes 2 0) (get_or bytes 3 0))
+-- the same, where the items could be read
+unfoldable pub tally_of : ℕ → ℕ → Option (List Item) → rust.Option Survey
+tally_of at kind none = None
+tally_of at kind (some items) = Some (survey_of at kind items)
 
 -- a look at a packet that is refused
 abbrev pub refused_look : ℕ → Look

@@ -3,7 +3,7 @@
 ghost use Rattle.std.specs.Prelude.{◌≡◌, ◌≤◌, length, drop};
 ghost use Rattle.packet.specs.Items.{items_of};
 ghost use Rattle.packet.specs.Packet.{head_length};
-ghost use Rattle.packet.specs.ReaderSteps.{begins_with_item, item_from, behind_first, Countable, with_item, no_items, tally_of};
+ghost use Rattle.packet.specs.ReaderSteps.{item_from, behind_first, Countable, with_item, no_items, tally_of};
 
 use crate::{EOF_KIND, HEAD_LENGTH};
 
@@ -28,63 +28,44 @@ pub(crate) struct Survey {
     pub(crate) behind: Option<Item>,
 }
 
-// What the item reader finds, if the items fill the packet.
-#[derive(Clone, Copy)]
-pub(crate) enum Tally {
-    Items(Survey),
-    Broken,
-}
-
-// Reads the items of a packet, which stand behind its first four bytes, to its end.
-pub(crate) fn read_items(s: &[u8], wanted: u8) -> Tally
+// Reads the items of a packet, which stand behind its first four bytes, to its end; none where they
+// do not fill it.
+pub(crate) fn read_items(s: &[u8], wanted: u8) -> Option<Survey>
     requires { head_length ≤ length s.now }
     ensures { result ≡ tally_of head_length wanted (items_of (drop head_length s.now)) }
 {
     let mut survey = no_items();
     let mut at = HEAD_LENGTH;
     while at < s.len() {
-        let Some(item) = item_at(s, at) else {
-            return Tally::Broken;
-        };
+        let item = item_at(s, at)?;
         survey = with_item(survey, item, item.kind == wanted);
         at = item.start + item.length;
     }
-    Tally::Items(survey)
+    Some(survey)
 }
 
-// The item that the bytes from the place `at` on begin with, if they begin with one.
+// The item that the bytes from the place `at` on begin with, if they begin with a whole one. An EOF
+// item is empty.
+#[tactic(auto, unfolding(crate::specs::ReaderSteps::item_from, crate::specs::ReaderSteps::begins_with_item))]
 fn item_at(s: &[u8], at: usize) -> Option<Item>
     requires { at ≤ length s.now }
     ensures { result ≡ item_from at (drop at s.now) }
 {
-    let rest = &s[at..];
-    let whole = begins_with_item(rest);
-    if !whole {
+    let [kind, length, value @ ..] = &s[at..] else {
+        return None;
+    };
+    let length = *length as usize;
+    if value.len() < length {
+        return None;
+    }
+    if *kind == EOF_KIND && length != 0 {
         return None;
     }
     Some(Item {
-        kind: rest[0],
+        kind: *kind,
         start: at + ITEM_HEAD,
-        length: rest[1] as usize,
+        length,
     })
-}
-
-// Whether `rest` begins with a whole item, and with an empty one if it is an EOF item.
-fn begins_with_item(rest: &[u8]) -> bool
-    ensures { result ≡ begins_with_item rest.now }
-{
-    if rest.len() < ITEM_HEAD {
-        return false;
-    }
-    let length = rest[1] as usize;
-    let end = length + ITEM_HEAD;
-    if rest.len() < end {
-        return false;
-    }
-    if rest[0] == EOF_KIND {
-        return length == 0;
-    }
-    true
 }
 
 fn no_items() -> Survey

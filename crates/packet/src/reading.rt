@@ -1,12 +1,12 @@
 // Data packets: the reader of a packet's first four bytes, and what its items are asked for.
 ghost use Rattle.std.specs.Prelude.{◌≡◌, ◌≤◌, length};
 ghost use Rattle.packet.specs.Items.{count_of, value_bytes, value_in};
-ghost use Rattle.packet.specs.Packet.{head_length, is_data, packet_of, packet_items};
+ghost use Rattle.packet.specs.Packet.{head_length, packet_of, packet_items};
 ghost use Rattle.packet.specs.Answers.{find_in, behind_in, item_at, look_of, reading_of};
-ghost use Rattle.packet.specs.ReaderSteps.{head_reading, refused_look};
+ghost use Rattle.packet.specs.ReaderSteps.{refused_look};
 
-use crate::items::{Item, Tally, read_items};
-use crate::{DATA, EOF_KIND, HEAD_LENGTH};
+use crate::items::{Item, read_items};
+use crate::{DATA, EOF_KIND};
 use refusals::{BAD_ITEMS, NO_DATA_PACKET};
 
 // What reading a packet gives: its opcode and request id, or the number of the refusal.
@@ -28,44 +28,23 @@ pub struct Look {
     pub behind: Option<Item>,
 }
 
-// Whether `s` has a data packet's first four bytes.
-fn is_data(s: &[u8]) -> bool
-    ensures { result ≡ is_data s.now }
-{
-    if s.len() < HEAD_LENGTH {
-        return false;
-    }
-    s[0] == DATA
-}
-
 // Looks at a packet for a kind: refusal 9 or 10, or what the packet is and has of the kind.
 pub fn look_for(s: &[u8], kind: u8) -> Look
     ensures { result ≡ look_of kind s.now }
 {
-    let data = is_data(s);
-    if !data {
+    let [DATA, opcode, high, low, ..] = *s else {
         return refused(NO_DATA_PACKET);
-    }
-    let Tally::Items(survey) = read_items(s, kind) else {
-        return refused(BAD_ITEMS);
     };
-    Look {
-        reading: read_head(s),
-        all: survey.all,
-        count: survey.count,
-        first: survey.first,
-        behind: survey.behind,
-    }
-}
-
-// The opcode and the request id in a data packet's first four bytes.
-fn read_head(s: &[u8]) -> Reading
-    requires { head_length ≤ length s.now }
-    ensures { result ≡ head_reading s.now }
-{
-    Reading::Packet {
-        opcode: s[1],
-        id: slices::pair(s[2], s[3]),
+    let id = u16::from_be_bytes([high, low]);
+    match read_items(s, kind) {
+        Some(survey) => Look {
+            reading: Reading::Packet { opcode, id },
+            all: survey.all,
+            count: survey.count,
+            first: survey.first,
+            behind: survey.behind,
+        },
+        None => refused(BAD_ITEMS),
     }
 }
 

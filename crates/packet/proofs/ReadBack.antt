@@ -10,6 +10,7 @@ use lib.Dec.{leb, ltb}
 use lib.ListN.{length, take, get_or, length-append}
 use lib.Seq.{take-append_seam, drop-append_seam}
 use borrow.Author.Tests.{le-leb, ltb-false}
+use Rattle.std.specs.Prelude.{Option, Some, None}
 use Rattle.refusals.specs.Numbers.{bad_name, bad_fragment}
 use Rattle.slices.proofs.Impossible.{impossible}
 use Rattle.slices.specs.HighFirst.{word_of, pair_of}
@@ -25,8 +26,6 @@ use Rattle.packet.specs.Packet.{Packet, packet, is_data, with_items, packet_of, 
 use Rattle.packet.specs.Names.{valid_name, valid_location}
 use Rattle.packet.specs.Answers.{reading_of}
 use Rattle.packet.specs.Requests.{name_item, location_item, offset_item, offset_items, get_packet, file_packet, fetched_packet, stop_packet, property_get, file_request, fetched_request, stop_request}
-use Rattle.packet.specs.declared.requests.Offset.{Offset}
-use Rattle.packet.specs.declared.requests.Offset.TheVariants.{Given, Omitted}
 use Rattle.packet.specs.declared.reading.Reading.{Reading}
 use Rattle.packet.specs.declared.reading.Reading.TheVariants as reading
 use Rattle.packet.proofs.ItemLaws.{items_end, items_rule}
@@ -100,13 +99,13 @@ module _ (id : ℕ) (before : List ℕ) (n : ℕ) (after : List ℕ) where
   unfolding property_get get_packet name_item eofs_empty empty_if_eof
   property_get_back name c = written_back (get_packet id name) (valid_name name) bad_name before after n refl (get_was_written c)
 
-  pub file_request_back : (location : List ℕ) (offset : Offset) → FileRequestCall id location offset before (Length n) after
+  pub file_request_back : (location : List ℕ) (offset : Option ℕ) → FileRequestCall id location offset before (Length n) after
       → ReadAs (file_packet id location offset) (take n after)
   unfolding file_request file_packet location_item offset_item offset_items eofs_empty empty_if_eof
-  file_request_back location (Given place) c =
-      written_back (file_packet id location (Given place)) (valid_location location) bad_fragment before after n refl (file_was_written c)
-  file_request_back location Omitted c =
-      written_back (file_packet id location Omitted) (valid_location location) bad_fragment before after n refl (file_was_written c)
+  file_request_back location (Some place) c =
+      written_back (file_packet id location (Some place)) (valid_location location) bad_fragment before after n refl (file_was_written c)
+  file_request_back location None c =
+      written_back (file_packet id location None) (valid_location location) bad_fragment before after n refl (file_was_written c)
 
   pub fetched_back : (location : List ℕ) → FetchedCall id location before (Length n) after → ReadAs (fetched_packet id location) (take n after)
   unfolding fetched_request fetched_packet location_item eofs_empty empty_if_eof
@@ -122,7 +121,7 @@ module _ (id : ℕ) (before : List ℕ) (answer : Written) (after : List ℕ) wh
       → PropertyGetCall id name before answer after → WritesAs (written (packet_bytes (get_packet id name))) before answer after
   property_get_writes name valid room c = rw (get_fits id name (length before) valid room) at (get_was_written c)
 
-  pub file_request_writes : (location : List ℕ) (offset : Offset) → valid_location location ≡ true
+  pub file_request_writes : (location : List ℕ) (offset : Option ℕ) → valid_location location ≡ true
       → length (packet_bytes (file_packet id location offset)) ≤ length before
       → FileRequestCall id location offset before answer after → WritesAs (written (packet_bytes (file_packet id location offset))) before answer after
   file_request_writes location offset valid room c = rw (file_fits id location offset (length before) valid room) at (file_was_written c)

@@ -5,6 +5,7 @@ use mathlib.Core.Bool.{true}
 use mathlib.Core.List.{List}
 use Prim.Native.Nat.{ℕ, ◌≤◌}
 use lib.ListN.{length}
+use Rattle.std.specs.Prelude.{Option}
 use Rattle.slices.specs.Put.{put_at}
 use Rattle.slices.specs.Written.{WritesAs}
 use Rattle.slices.specs.declared.Written.{Written}
@@ -16,7 +17,6 @@ use Rattle.packet.specs.Names.{valid_name, valid_location}
 use Rattle.packet.specs.Answers.{reading_of}
 use Rattle.packet.specs.Requests.{get_packet, file_packet, fetched_packet, stop_packet, property_get, file_request, fetched_request, stop_request}
 use Rattle.packet.specs.declared.reading.Reading.{Reading}
-use Rattle.packet.specs.declared.requests.Offset.{Offset}
 use Rattle.packet.proofs.WriteLaws.{get_fits, file_fits, fetched_fits, stop_fits}
 use Rattle.packet.proofs.reading.read_packet.Reads as read_packet
 use Rattle.packet.proofs.reading.count_all.Reads as count_all
@@ -39,7 +39,7 @@ ValueCall kind = InCall value.Asked value.Learnt (λ bytes. (bytes, (kind, tt)))
 abbrev pub PropertyGetCall : (id : ℕ) (name before : List ℕ) (answer : Written) (after : List ℕ) → Type 0
 PropertyGetCall id = InOutCall property_get_call.Asked property_get_call.Learnt (λ name output. (id, (name, (output, tt))))
 
-abbrev pub FileRequestCall : (id : ℕ) (location : List ℕ) (offset : Offset) (before : List ℕ) (answer : Written) (after : List ℕ) → Type 0
+abbrev pub FileRequestCall : (id : ℕ) (location : List ℕ) (offset : Option ℕ) (before : List ℕ) (answer : Written) (after : List ℕ) → Type 0
 FileRequestCall id location offset =
     InOutCall file_request_call.Asked file_request_call.Learnt (λ lent output. (id, (lent, (offset, (output, tt))))) location
 
@@ -63,7 +63,7 @@ module _ {id : ℕ} {before : List ℕ} {answer : Written} {after : List ℕ} wh
   pub get_was_written : {name : List ℕ} → PropertyGetCall id name before answer after → WritesAs (property_get id name (length before)) before answer after
   get_was_written c = rw (c.input_lent.holds, c.output_lent.holds, c.output_left.holds) at c.learnt
 
-  pub file_was_written : {location : List ℕ} {offset : Offset} → FileRequestCall id location offset before answer after
+  pub file_was_written : {location : List ℕ} {offset : Option ℕ} → FileRequestCall id location offset before answer after
       → WritesAs (file_request id location offset (length before)) before answer after
   file_was_written c = rw (c.input_lent.holds, c.output_lent.holds, c.output_left.holds) at c.learnt
 
@@ -91,7 +91,7 @@ module _ (id : ℕ) (before : List ℕ) where
   every_get_is_written name valid room =
       in_out_call tt (rw (get_fits id name (length before) valid room) (record { answers = refl; put = refl }))
 
-  pub every_file_request_is_written : (location : List ℕ) (offset : Offset) → valid_location location ≡ true
+  pub every_file_request_is_written : (location : List ℕ) (offset : Option ℕ) → valid_location location ≡ true
       → length (packet_bytes (file_packet id location offset)) ≤ length before
       → FileRequestCall id location offset before (Length (length (packet_bytes (file_packet id location offset)))) (put_at before 0 (packet_bytes (file_packet id location offset)))
   every_file_request_is_written location offset valid room =

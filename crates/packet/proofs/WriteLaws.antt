@@ -2,24 +2,24 @@
 use mathlib.Core.Path.{◌≡◌, refl, sym, ap, ◌∙◌}
 use mathlib.Core.Bool.{true}
 use mathlib.Core.List.{List, [], ◌∷◌, ◌++◌}
-use Prim.Native.Nat.{ℕ, ◌+◌, ◌/◌, ◌%◌, ◌≤◌, ◌<◌}
+use Prim.Native.Nat.{ℕ, ◌+◌, ◌/◌, ◌%◌, ◌^◌, ◌≤◌, ◌<◌}
 use native.Mathlib.Omega.{arith}
 use lib.ListN.{length, length-append}
+use Rattle.std.specs.Prelude.{Option, Some, None}
 use Rattle.refusals.specs.Numbers.{short_output}
+use Rattle.std.specs.Int.{w16, w32, to_be_bytes}
 use Rattle.slices.specs.Put.{put_at}
 use Rattle.slices.specs.Written.{written, fitted, WritesAs}
 use Rattle.slices.specs.declared.Written.TheVariants.{Length, Refused}
 use Rattle.slices.proofs.WrittenLaws.{too_little_room, room_enough, refuses, writes}
 use Rattle.slices.proofs.HighFirstLaws.{four_bytes}
 use Rattle.slices.proofs.PutLaws.{put_append}
-use Rattle.packet.specs.ItemTypes.{offset_kind}
+use Rattle.packet.specs.ItemTypes.{name_kind, location_kind, offset_kind}
 use Rattle.packet.specs.Items.{item_bytes, items_bytes}
-use Rattle.packet.specs.Packet.{with_head, packet_bytes}
+use Rattle.packet.specs.Packet.{data_byte, with_head, packet_bytes}
 use Rattle.packet.specs.Names.{valid_name, valid_location}
-use Rattle.packet.specs.Requests.{location_item, offset_item, offset_items, get_packet, file_packet, fetched_packet, stop_packet, property_get, file_request, fetched_request, stop_request}
-use Rattle.packet.specs.WriterSteps.{located_request}
-use Rattle.packet.specs.declared.requests.Offset.{Offset}
-use Rattle.packet.specs.declared.requests.Offset.TheVariants.{Given}
+use Rattle.packet.specs.Requests.{get_opcode, file_opcode, fetched_opcode, stop_opcode, name_item, location_item, offset_item, offset_items, get_packet, file_packet, fetched_packet, stop_packet, property_get, file_request, fetched_request, stop_request}
+use Rattle.packet.specs.WriterSteps.{request_bytes}
 
 module _ (opcode id : ℕ) (front value further : List ℕ) where
   packet_length : length (with_head opcode id (front ++ value ++ further)) ≡ 4 + length front + length value + length further
@@ -36,12 +36,15 @@ module _ (opcode id : ℕ) (front value further : List ℕ) where
   pub packet_put :
       (d d₁ d₂ d₃ d₄ : List ℕ)
       → 4 + length front + length value + length further ≤ length d
-      → d₁ ≡ put_at d 0 (with_head opcode id [])
+      → id < 2 ^ 16
+      → d₁ ≡ put_at d 0 (data_byte ∷ opcode ∷ to_be_bytes w16 id)
       → d₂ ≡ put_at d₁ 4 front
       → d₃ ≡ put_at d₂ (4 + length front) value
       → d₄ ≡ put_at d₃ (4 + length front + length value) further
       → WritesAs (fitted (length d) (with_head opcode id (front ++ value ++ further))) d (Length (4 + length front + length value + length further)) d₄
-  packet_put d d₁ d₂ d₃ d₄ h e₁ e₂ e₃ e₄ =
+  packet_put d d₁ d₂ d₃ d₄ h small e e₂ e₃ e₄ =
+      let high : id / 256 % 256 ≡ id / 256 = omega arith in
+      let e₁ : d₁ ≡ put_at d 0 (with_head opcode id []) = rw high at e in
       let inner : length (front ++ value) ≡ length front + length value = length-append front value in
       let second : 0 + length (with_head opcode id front) ≡ 4 + length front = omega arith in
       let third : 0 + length (with_head opcode id (front ++ value)) ≡ 4 + length front + length value = omega arith in
@@ -50,12 +53,30 @@ module _ (opcode id : ℕ) (front value further : List ℕ) where
       let p₄ : d₄ ≡ put_at d 0 (with_head opcode id (front ++ value ++ further)) = e₄ ∙ ap (λ (l : List ℕ). put_at l (4 + length front + length value) further) p₃ ∙ rw (← third) (put_append d 0 (with_head opcode id (front ++ value)) further) in
       writes _ (with_head opcode id (front ++ value ++ further)) d d₄ _ (room_enough (length d) (with_head opcode id (front ++ value ++ further)) _ packet_length h) (sym packet_length) p₄
 
--- the offset of a file request, byte by byte
-pub file_given : (id : ℕ) (location : List ℕ) (place room : ℕ) →
-    located_request 0x0a id location (offset_kind ∷ 4 ∷ place / 0x1000000 ∷ place / 0x10000 % 256 ∷ place / 0x100 % 256 ∷ place % 256 ∷ []) room
-    ≡ file_request id location (Given place) room
-unfolding file_request located_request packet_bytes items_bytes item_bytes file_packet location_item offset_item offset_items
-file_given id location place room = rw (four_bytes place)
+-- the bytes of the four requests
+module _ (id : ℕ) where
+  pub get_bytes : (name : List ℕ) → packet_bytes (get_packet id name) ≡ request_bytes get_opcode id name_kind name []
+  unfolding packet_bytes items_bytes item_bytes get_packet name_item
+  get_bytes name = refl
+
+  pub file_bytes : (location : List ℕ) → packet_bytes (file_packet id location None) ≡ request_bytes file_opcode id location_kind location []
+  unfolding packet_bytes items_bytes item_bytes file_packet location_item offset_items
+  file_bytes location = refl
+
+  pub file_bytes_from : (location : List ℕ) (place : ℕ) → place < 2 ^ 32
+      → packet_bytes (file_packet id location (Some place)) ≡ request_bytes file_opcode id location_kind location (offset_kind ∷ 4 ∷ to_be_bytes w32 place)
+  unfolding packet_bytes items_bytes item_bytes file_packet location_item offset_item offset_items
+  file_bytes_from location place fits =
+      let first : place / 0x1000000 % 256 ≡ place / 0x1000000 = omega arith in
+      rw (four_bytes place, first)
+
+  pub fetched_bytes : (location : List ℕ) → packet_bytes (fetched_packet id location) ≡ request_bytes fetched_opcode id location_kind location []
+  unfolding packet_bytes items_bytes item_bytes fetched_packet location_item
+  fetched_bytes location = refl
+
+  pub stop_bytes : packet_bytes (stop_packet id) ≡ with_head stop_opcode id []
+  unfolding packet_bytes items_bytes stop_packet
+  stop_bytes = refl
 
 -- with room the packet is written
 pub get_fits : (id : ℕ) (name : List ℕ) (room : ℕ) → valid_name name ≡ true → length (packet_bytes (get_packet id name)) ≤ room
@@ -63,7 +84,7 @@ pub get_fits : (id : ℕ) (name : List ℕ) (room : ℕ) → valid_name name ≡
 unfolding property_get
 get_fits id name room valid h = rw valid (room_enough room (packet_bytes (get_packet id name)) _ refl h)
 
-pub file_fits : (id : ℕ) (location : List ℕ) (offset : Offset) (room : ℕ) → valid_location location ≡ true
+pub file_fits : (id : ℕ) (location : List ℕ) (offset : Option ℕ) (room : ℕ) → valid_location location ≡ true
     → length (packet_bytes (file_packet id location offset)) ≤ room → file_request id location offset room ≡ written (packet_bytes (file_packet id location offset))
 unfolding file_request
 file_fits id location offset room valid h = rw valid (room_enough room (packet_bytes (file_packet id location offset)) _ refl h)

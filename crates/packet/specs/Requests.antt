@@ -1,5 +1,5 @@
 -- 01, Items and packets: the four requests, the packet of each, and what its writer makes of an output with so much room.
-use Rattle.std.specs.Prelude.{ℕ, cond, List, [], ◌∷◌}
+use Rattle.std.specs.Prelude.{ℕ, cond, List, [], ◌∷◌, Option, Some, None}
 use Rattle.refusals.specs.Numbers.{bad_name, bad_fragment}
 use Rattle.slices.specs.HighFirst.{high_first}
 use Rattle.slices.specs.Written.{Output, refused, fitted}
@@ -7,8 +7,6 @@ use Rattle.packet.specs.ItemTypes.{name_kind, offset_kind, location_kind}
 use Rattle.packet.specs.Items.{Item}
 use Rattle.packet.specs.Packet.{Packet, packet_bytes}
 use Rattle.packet.specs.Names.{valid_name, valid_location}
-use Rattle.packet.specs.declared.requests.Offset.{Offset}
-use Rattle.packet.specs.declared.requests.Offset.TheVariants.{Given, Omitted}
 
 -- 01, Items and packets: the opcodes of the four requests
 abbrev pub get_opcode : ℕ
@@ -34,15 +32,15 @@ unfoldable pub location_item : List ℕ → Item
 location_item location = record { kind = location_kind; value = location }
 
 -- an Offset item if one is wanted
-unfoldable pub offset_items : Offset → List Item
-offset_items (Given offset) = offset_item offset ∷ []
-offset_items Omitted = []
+unfoldable pub offset_items : Option ℕ → List Item
+offset_items (Some offset) = offset_item offset ∷ []
+offset_items None = []
 
 -- property get (Name), file request (Location, then Offset if wanted), fetched (Location), stop (no items)
 unfoldable pub get_packet : ℕ → List ℕ → Packet
 get_packet id name = record { opcode = get_opcode; id = id; items = name_item name ∷ [] }
 
-unfoldable pub file_packet : ℕ → List ℕ → Offset → Packet
+unfoldable pub file_packet : ℕ → List ℕ → Option ℕ → Packet
 file_packet id location offset = record { opcode = file_opcode; id = id; items = location_item location ∷ offset_items offset }
 
 unfoldable pub fetched_packet : ℕ → List ℕ → Packet
@@ -55,7 +53,7 @@ stop_packet id = record { opcode = stop_opcode; id = id; items = [] }
 unfoldable pub property_get : ℕ → List ℕ → ℕ → Output
 property_get id name room = cond (valid_name name) (fitted room (packet_bytes (get_packet id name))) (refused bad_name)
 
-unfoldable pub file_request : ℕ → List ℕ → Offset → ℕ → Output
+unfoldable pub file_request : ℕ → List ℕ → Option ℕ → ℕ → Output
 file_request id location offset room =
     cond (valid_location location) (fitted room (packet_bytes (file_packet id location offset))) (refused bad_fragment)
 

@@ -15,7 +15,7 @@ pub use names::{LONGEST_LOCATION, valid_location, valid_name};
 pub use reading::{
     Look, Reading, behind, count, count_all, find, look_for, read_packet, value, value_at,
 };
-pub use requests::{Offset, fetched, file_request, property_get, stop};
+pub use requests::{fetched, file_request, property_get, stop};
 pub use slices::Written;
 
 // A data packet's first byte.

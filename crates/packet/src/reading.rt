@@ -97,6 +97,7 @@ pub fn behind(s: &[u8], kind: u8) -> Option<Item>
 }
 
 // The value of the first item of the kind in a packet; empty where there is none.
+#[tactic(auto, using(crate::proofs::FoundLaws::value_found))]
 pub fn value(s: &[u8], kind: u8) -> &[u8]
     ensures { result.now ≡ value_in kind (packet_items s.now) }
 {
@@ -104,6 +105,7 @@ pub fn value(s: &[u8], kind: u8) -> &[u8]
 }
 
 // The bytes of an item's value, as many of them as the packet has; empty where nothing was found.
+#[tactic(auto, using(slices::proofs::PartLaws::part_rest), unfolding(crate::specs::Answers::item_at, crate::specs::Items::value_bytes))]
 pub fn value_at(s: &[u8], item: Option<Item>) -> &[u8]
     ensures { result.now ≡ value_bytes (item_at s.now item) }
 {

@@ -21,13 +21,6 @@ const STOP_OPCODE: u8 = 0x0e;
 // How many bytes an Offset is written in.
 const OFFSET_LENGTH: u8 = 4;
 
-// Whether a file request names the offset to begin at.
-#[derive(Clone, Copy)]
-pub enum Offset {
-    Given(u32),
-    Omitted,
-}
-
 // Writes a data packet whose items are the three strings joined, if the output has room for it: the
 // shared end of the four requests.
 fn write_packet(
@@ -47,8 +40,7 @@ fn write_packet(
     if out.len() < total {
         return Written::Refused(SHORT_OUTPUT);
     }
-    let high = (id / 256) as u8;
-    let low = (id % 256) as u8;
+    let [high, low] = id.to_be_bytes();
     let head = [DATA, opcode, high, low];
     slices::put(out, 0, &head);
     slices::put(out, HEAD_LENGTH, front);
@@ -75,44 +67,44 @@ fn write_request(
 }
 
 // Writes a request for the file at a location: refusal 20 for one that is not valid, then 7.
+#[tactic(auto, using(crate::proofs::NameLaws::location_size), unfolding(crate::specs::WriterSteps::located_request))]
 fn write_located(opcode: u8, id: u16, location: &[u8], further: &[u8], out: &mut [u8]) -> Written
     requires { length further.now < 128 }
     ensures { WritesAs (located_request opcode id location.now further.now (length out.old)) out.old result out.new }
 {
-    let valid = valid_location(location);
-    if !valid {
+    if !valid_location(location) {
         return Written::Refused(BAD_FRAGMENT);
     }
     write_request(opcode, id, LOCATION_KIND, location, further, out)
 }
 
 // Writes a property get: refusal 12 for a name that is not valid, then 7.
+#[tactic(auto, using(crate::proofs::NameLaws::name_size, crate::proofs::WriteLaws::get_bytes), unfolding(crate::specs::Requests::property_get))]
 pub fn property_get(id: u16, name: &[u8], out: &mut [u8]) -> Written
     ensures { WritesAs (property_get id name.now (length out.old)) out.old result out.new }
 {
-    let valid = valid_name(name);
-    if !valid {
+    if !valid_name(name) {
         return Written::Refused(BAD_NAME);
     }
     write_request(GET_OPCODE, id, NAME_KIND, name, b"", out)
 }
 
-// Writes a file request: refusal 20 for a location that is not valid, then 7.
-pub fn file_request(id: u16, location: &[u8], offset: Offset, out: &mut [u8]) -> Written
+// Writes a file request: refusal 20 for a location that is not valid, then 7. The file is sent from
+// the offset on, if one is given.
+#[tactic(auto, using(crate::proofs::WriteLaws::file_bytes, crate::proofs::WriteLaws::file_bytes_from), unfolding(crate::specs::Requests::file_request, crate::specs::WriterSteps::located_request))]
+pub fn file_request(id: u16, location: &[u8], offset: Option<u32>, out: &mut [u8]) -> Written
     ensures { WritesAs (file_request id location.now offset (length out.old)) out.old result out.new }
 {
-    let Offset::Given(place) = offset else {
+    let Some(place) = offset else {
         return write_located(FILE_OPCODE, id, location, b"", out);
     };
-    let first = (place / 0x1000000) as u8;
-    let second = (place / 0x10000 % 256) as u8;
-    let third = (place / 0x100 % 256) as u8;
-    let fourth = (place % 256) as u8;
+    let [first, second, third, fourth] = place.to_be_bytes();
     let further = [OFFSET_KIND, OFFSET_LENGTH, first, second, third, fourth];
     write_located(FILE_OPCODE, id, location, &further, out)
 }
 
 // Writes a fetched packet: refusal 20 for a location that is not valid, then 7.
+#[tactic(auto, using(crate::proofs::WriteLaws::fetched_bytes), unfolding(crate::specs::Requests::fetched_request, crate::specs::WriterSteps::located_request))]
 pub fn fetched(id: u16, location: &[u8], out: &mut [u8]) -> Written
     ensures { WritesAs (fetched_request id location.now (length out.old)) out.old result out.new }
 {
@@ -120,6 +112,7 @@ pub fn fetched(id: u16, location: &[u8], out: &mut [u8]) -> Written
 }
 
 // Writes a stop packet, which has no items: refusal 7.
+#[tactic(auto, using(crate::proofs::WriteLaws::stop_bytes), unfolding(crate::specs::Requests::stop_request))]
 pub fn stop(id: u16, out: &mut [u8]) -> Written
     ensures { WritesAs (stop_request id (length out.old)) out.old result out.new }
 {

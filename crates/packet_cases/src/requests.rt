@@ -1,6 +1,6 @@
 // A request as it is written into three buffers, and the whole of each buffer after it.
 use cases::{line, print};
-use packet::{Offset, Written};
+use packet::Written;
 
 // Room for each request that is a case, for some of them, and for none.
 const ROOMY: usize = 18;
@@ -32,8 +32,8 @@ fn show_written(rt: &impl Print, line: &[u8], bytes: &[u8], out: &mut [u8]) {
 fn write(key: u8, bytes: &[u8], out: &mut [u8]) -> Written {
     match key {
         b'g' => packet::property_get(0x1234, bytes, out),
-        b'f' => packet::file_request(0xff01, bytes, Offset::Omitted, out),
-        b'o' => packet::file_request(0xff01, bytes, Offset::Given(0x01020304), out),
+        b'f' => packet::file_request(0xff01, bytes, None, out),
+        b'o' => packet::file_request(0xff01, bytes, Some(0x01020304), out),
         b'd' => packet::fetched(256, bytes, out),
         _ => packet::stop(255, out),
     }

@@ -10,5 +10,5 @@ pub returns : goal.returns
 returns c =
     packet_put c.args.opcode c.args.id c.args.front.now c.args.value.now c.args.further.now c.args.out.now
     c.put.new.dst c.put-2.new.dst c.put-3.new.dst c.put-4.new.dst
-    c.if-out-total.false
-    c.put.ensures c.put-2.ensures c.put-3.ensures c.put-4.ensures
+    c.if-out-total.false c.ranges.id.fits
+    (rw c.to_be_bytes.ensures at c.put.ensures) c.put-2.ensures c.put-3.ensures c.put-4.ensures

@@ -1,5 +1,0 @@
--- `packet::reading::behind` meets its contract: `look_for` answers for it.
-use Rattle.packet.proofs.reading.behind.Goals as goal
-
-pub returns : goal.returns
-returns c = rw c.look_for.ensures

@@ -7,7 +7,7 @@ use native.Mathlib.Omega.{arith}
 use lib.ListN.{length, length-append}
 use Rattle.std.specs.Prelude.{Option, Some, None}
 use Rattle.refusals.specs.Numbers.{short_output}
-use Rattle.std.specs.Int.{w16, w32, to_be_bytes}
+use Rattle.std.specs.Int.{w32, to_be_bytes}
 use Rattle.slices.specs.Put.{put_at}
 use Rattle.slices.specs.Written.{written, fitted, WritesAs}
 use Rattle.slices.specs.declared.Written.TheVariants.{Length, Refused}
@@ -16,7 +16,7 @@ use Rattle.slices.proofs.HighFirstLaws.{four_bytes}
 use Rattle.slices.proofs.PutLaws.{put_append}
 use Rattle.packet.specs.ItemTypes.{name_kind, location_kind, offset_kind}
 use Rattle.packet.specs.Items.{item_bytes, items_bytes}
-use Rattle.packet.specs.Packet.{data_byte, with_head, packet_bytes}
+use Rattle.packet.specs.Packet.{with_head, packet_bytes}
 use Rattle.packet.specs.Names.{valid_name, valid_location}
 use Rattle.packet.specs.Requests.{get_opcode, file_opcode, fetched_opcode, stop_opcode, name_item, location_item, offset_item, offset_items, get_packet, file_packet, fetched_packet, stop_packet, property_get, file_request, fetched_request, stop_request}
 use Rattle.packet.specs.WriterSteps.{request_bytes}
@@ -36,15 +36,12 @@ module _ (opcode id : ℕ) (front value further : List ℕ) where
   pub packet_put :
       (d d₁ d₂ d₃ d₄ : List ℕ)
       → 4 + length front + length value + length further ≤ length d
-      → id < 2 ^ 16
-      → d₁ ≡ put_at d 0 (data_byte ∷ opcode ∷ to_be_bytes w16 id)
+      → d₁ ≡ put_at d 0 (with_head opcode id [])
       → d₂ ≡ put_at d₁ 4 front
       → d₃ ≡ put_at d₂ (4 + length front) value
       → d₄ ≡ put_at d₃ (4 + length front + length value) further
       → WritesAs (fitted (length d) (with_head opcode id (front ++ value ++ further))) d (Length (4 + length front + length value + length further)) d₄
-  packet_put d d₁ d₂ d₃ d₄ h small e e₂ e₃ e₄ =
-      let high : id / 256 % 256 ≡ id / 256 = omega arith in
-      let e₁ : d₁ ≡ put_at d 0 (with_head opcode id []) = rw high at e in
+  packet_put d d₁ d₂ d₃ d₄ h e₁ e₂ e₃ e₄ =
       let inner : length (front ++ value) ≡ length front + length value = length-append front value in
       let second : 0 + length (with_head opcode id front) ≡ 4 + length front = omega arith in
       let third : 0 + length (with_head opcode id (front ++ value)) ≡ 4 + length front + length value = omega arith in

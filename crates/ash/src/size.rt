@@ -6,23 +6,18 @@ use crate::escapes::unescape;
 use crate::header::{good_header, length_escaped};
 use crate::{FRAME_MIN, PAYLOAD_MAX};
 
-// So many bytes with header and check bytes; or a header with which no frame is taken.
-#[derive(Clone, Copy)]
-pub enum Size {
-    Bytes(usize),
-    Bad,
-}
-
-// The size of a frame whose header has these bytes behind the flag, as they are sent.
-pub fn frame_size(escape: u8, control: u8, length: u8) -> Size
+// The size, with header and check bytes, of a frame whose header has these bytes behind the flag, as
+// they are sent; none where no frame is taken with that header.
+#[tactic(auto, unfolding(crate::specs::Size::frame_size))]
+pub fn frame_size(escape: u8, control: u8, length: u8) -> Option<usize>
     ensures { result ≡ frame_size escape control length }
 {
     if !good_header(escape, control, length) {
-        return Size::Bad;
+        return None;
     }
     let payload = unescape(length_escaped(escape), length) as usize;
     if PAYLOAD_MAX < payload {
-        return Size::Bad;
+        return None;
     }
-    Size::Bytes(payload + FRAME_MIN)
+    Some(payload + FRAME_MIN)
 }

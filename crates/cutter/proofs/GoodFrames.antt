@@ -9,12 +9,12 @@ use native.Mathlib.Omega.{arith}
 use lib.Dec.{ltb}
 use lib.ListN.{length, get_or, length-append}
 use borrow.Author.Tests.{eqb-true, ltb-false, lt-ltb, le-ltb}
+use Rattle.std.specs.Prelude.{Some}
 use Rattle.ash.specs.Header.{frame_min}
 use Rattle.ash.specs.Reserved.{flag_byte, reserved}
 use Rattle.ash.specs.Writing.{frame_of}
 use Rattle.ash.specs.Reading as reading
 use Rattle.ash.specs.Reading.{flag_first, read_frame}
-use Rattle.ash.specs.declared.size.Size.TheVariants.{Bytes}
 use Rattle.ash.proofs.FrameTheorems.{wrote_frame}
 use Rattle.ash.proofs.SizeLaws.{taken_size}
 use Rattle.ash.proofs.OnlyWritten.{only_written}
@@ -36,7 +36,7 @@ abbrev NoFlag : List ℕ → Type 0
 NoFlag bytes = (i : ℕ) → get_or bytes i 0 ≡ flag_byte → ⊥
 
 -- a frame whose header says its length
-module _ (frame : List ℕ) (long : frame_min ≤ length frame) (size : size_in frame ≡ Bytes (length frame)) where
+module _ (frame : List ℕ) (long : frame_min ≤ length frame) (size : size_in frame ≡ Some (length frame)) where
   whole : joined_step frame ≡ hands_on frame between
   unfolding joined_step
   whole =
@@ -55,7 +55,7 @@ module _ (frame : List ℕ) (long : frame_min ≤ length frame) (size : size_in 
       by_length : (t : Bool) → ltb (length held) 4 ≡ t → joined_step held ≡ goes_on (inside held)
       by_length true f = rw f
       by_length false f =
-          let said : size_in held ≡ Bytes (length frame) = sym (size_append held rest (ltb-false (length held) 4 f)) ∙ ap size_in is ∙ size in
+          let said : size_in held ≡ Some (length frame) = sym (size_append held rest (ltb-false (length held) 4 f)) ∙ ap size_in is ∙ size in
           rw (f, said, lt-ltb (length held) (length frame) fewer)
 
   module _ (after : List ℕ) where

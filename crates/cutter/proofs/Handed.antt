@@ -6,18 +6,17 @@ use mathlib.Core.Logic.{◌⊎◌}
 use Prim.Native.Nat.{ℕ, ◌≤◌, ◌<◌}
 use native.Mathlib.Omega.{arith}
 use lib.ListN.{length, get_or, get_or-append}
+use Rattle.std.specs.Prelude.{Option, Some}
 use Rattle.ash.specs.Header.{frame_min}
 use Rattle.ash.specs.Size.{frame_size}
 use Rattle.ash.specs.Reading as reading
 use Rattle.ash.specs.Reading.{Read, flag_first, read_frame}
-use Rattle.ash.specs.declared.size.Size.{Size}
-use Rattle.ash.specs.declared.size.Size.TheVariants.{Bytes}
 use Rattle.ash.proofs.SizeLaws.{taken_size}
 use Rattle.ash.proofs.TakenLaws.{opened}
 use Rattle.ash.specs.Size.{frame_max}
 
 -- how long a frame is, by its header
-abbrev pub size_in : List ℕ → Size
+abbrev pub size_in : List ℕ → Option ℕ
 size_in bytes = frame_size (get_or bytes 1 0) (get_or bytes 2 0) (get_or bytes 3 0)
 
 -- the header says it, whatever follows
@@ -28,7 +27,7 @@ size_append bytes rest long =
 -- a whole frame: a flag first, and as long as its header says
 pub record Whole (frame : List ℕ) : Type 0 where
   pub flag : flag_first frame ≡ true
-  pub size : size_in frame ≡ Bytes (length frame)
+  pub size : size_in frame ≡ Some (length frame)
 
 -- the reader's refusal
 pub record Refusal (room : ℕ) (frame : List ℕ) : Type 0 where
@@ -53,6 +52,6 @@ refused_unless room bytes untaken = by_result (read_frame room bytes) refl
 pub short_refused : (bytes : List ℕ) → length bytes < frame_min → (room : ℕ) → Refusal room bytes
 short_refused bytes few room = refused_unless room bytes (λ control p e. omega (arith, (opened room bytes control p e).long))
 
-pub other_size : (bytes : List ℕ) (size : Size) → size_in bytes ≡ size → (size ≡ Bytes (length bytes) → ⊥) → (room : ℕ) → Refusal room bytes
+pub other_size : (bytes : List ℕ) (size : Option ℕ) → size_in bytes ≡ size → (size ≡ Some (length bytes) → ⊥) → (room : ℕ) → Refusal room bytes
 other_size bytes size is other room =
     refused_unless room bytes (λ control p e. other (sym is ∙ taken_size room bytes control p e))

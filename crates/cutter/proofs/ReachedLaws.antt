@@ -9,11 +9,10 @@ use native.Mathlib.Omega.{arith}
 use lib.Dec.{ltb}
 use lib.ListN.{length, length-append}
 use borrow.Author.Tests.{ltb-true, ltb-false}
+use Rattle.std.specs.Prelude.{Option, Some, None}
 use Rattle.slices.proofs.Impossible.{impossible}
 use Rattle.ash.specs.Reserved.{flag_byte}
 use Rattle.ash.specs.Reading.{flag_first}
-use Rattle.ash.specs.declared.size.Size.{Size}
-use Rattle.ash.specs.declared.size.Size.TheVariants.{Bytes, Bad}
 use Rattle.ash.proofs.SizeLaws.{size_bounds}
 use Rattle.cutter.specs.Cutting.{Place, between, inside, passing, Step, goes_on, hands_on, begun, sized_step, joined_step}
 use Rattle.cutter.specs.Calls.{held_max}
@@ -22,7 +21,7 @@ use Rattle.cutter.proofs.Handed.{size_in, size_append, Refusal, Handed, short_re
 -- and of a frame under way: once its header has come, it is shorter than that says
 pub record Unfinished (held : List ℕ) : Type 0 where
   pub size : ℕ
-  pub is : size_in held ≡ Bytes size
+  pub is : size_in held ≡ Some size
   pub more : length held < size
 
 pub record UnderWay (held : List ℕ) : Type 0 where
@@ -60,7 +59,7 @@ cut_short held u =
     by_length true e = short_refused held (omega (arith, ltb-true (length held) 4 e))
     by_length false e =
         let more = u.unfinished (ltb-false (length held) 4 e) in
-        other_size held (Bytes more.size) more.is (λ same. let is : more.size ≡ length held = cc in omega (arith, more.more))
+        other_size held (Some more.size) more.is (λ same. let is : more.size ≡ length held = cc in omega (arith, more.more))
 
 -- a byte that joins a frame under way
 module _ (held : List ℕ) (b : ℕ) (u : UnderWay held) where
@@ -78,7 +77,7 @@ module _ (held : List ℕ) (b : ℕ) (u : UnderWay held) where
       behind (x ∷ l) e = e
 
   -- with one byte less it was shorter than its header says, so it never has more bytes
-  just : (n : ℕ) → size_in bytes ≡ Bytes n → n ≤ length bytes → length bytes ≡ n
+  just : (n : ℕ) → size_in bytes ≡ Some n → n ≤ length bytes → length bytes ≡ n
   just n e enough = by_length (ltb (length held) 4) refl
     where
       by_length : (t : Bool) → ltb (length held) 4 ≡ t → length bytes ≡ n
@@ -93,16 +92,16 @@ module _ (held : List ℕ) (b : ℕ) (u : UnderWay held) where
           omega (arith, bytes_length, before.more)
 
   -- it goes on while it is shorter than that, which is at most 64
-  longer : (size : Size) → size_in bytes ≡ size → 4 ≤ length bytes → ReachedBy (sized_step size bytes)
-  longer Bad e long = (
+  longer : (size : Option ℕ) → size_in bytes ≡ size → 4 ≤ length bytes → ReachedBy (sized_step size bytes)
+  longer None e long = (
     record {
       some = omega arith;
       most = omega (arith, bytes_length, u.few);
-      sort = inr (other_size bytes Bad e (λ same. impossible cc));
+      sort = inr (other_size bytes None e (λ same. impossible cc));
     },
     at_passing,
   )
-  longer (Bytes n) e long = by_length (ltb (length bytes) n) refl
+  longer (Some n) e long = by_length (ltb (length bytes) n) refl
     where
       by_length : (t : Bool) → ltb (length bytes) n ≡ t → ReachedBy (cond t (goes_on (inside bytes)) (hands_on bytes between))
       by_length true f =
@@ -119,7 +118,7 @@ module _ (held : List ℕ) (b : ℕ) (u : UnderWay held) where
             record {
               some = omega arith;
               most = omega (arith, bytes_length, u.few);
-              sort = inl (record { flag = still_flagged; size = e ∙ ap Bytes (sym (just n e enough)) });
+              sort = inl (record { flag = still_flagged; size = e ∙ ap Some (sym (just n e enough)) });
             },
             at_between,
           )

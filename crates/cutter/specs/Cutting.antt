@@ -1,10 +1,8 @@
 -- 02, C-21, and 002, 3.6 to 3.8: the line's bytes cut into frames.
-use Rattle.std.specs.Prelude.{ℕ, cond, List, [], ◌∷◌, ◌++◌, eqb, ltb, length, get_or}
+use Rattle.std.specs.Prelude.{ℕ, cond, Option, Some, None, List, [], ◌∷◌, ◌++◌, eqb, ltb, length, get_or}
 use Rattle.ash.specs.Reserved.{flag_byte}
 use Rattle.ash.specs.Header.{header_size}
 use Rattle.ash.specs.Size.{frame_size}
-use Rattle.ash.specs.declared.size.Size.{Size}
-use Rattle.ash.specs.declared.size.Size.TheVariants.{Bytes, Bad}
 
 -- 002, 3.7: the byte that wakes the other side
 abbrev pub wake_byte : ℕ
@@ -37,9 +35,9 @@ abbrev pub between_step : ℕ → Step
 between_step b = cond (eqb b wake_byte) (goes_on between) (hands_on (b ∷ []) passing)
 
 -- a frame that is as long as its header says is whole; one whose header is bad is handed on at once
-abbrev pub sized_step : Size → List ℕ → Step
-sized_step (Bytes n) bytes = cond (ltb (length bytes) n) (goes_on (inside bytes)) (hands_on bytes between)
-sized_step Bad bytes = hands_on bytes passing
+abbrev pub sized_step : Option ℕ → List ℕ → Step
+sized_step (Some n) bytes = cond (ltb (length bytes) n) (goes_on (inside bytes)) (hands_on bytes between)
+sized_step None bytes = hands_on bytes passing
 
 -- 002, 3.8: the bytes of a frame so far; the first four are its header
 unfoldable pub joined_step : List ℕ → Step

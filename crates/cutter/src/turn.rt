@@ -6,7 +6,7 @@ ghost use Rattle.cutter.specs.Calls.{place_of};
 ghost use Rattle.cutter.specs.Turns.{Room, passed_over, under_way, TurnsAs};
 
 use crate::state::Place;
-use ash::size::{Size, frame_size};
+use ash::size::frame_size;
 use ash::{FLAG, FRAME_MAX, HEADER_SIZE};
 
 // Wakes the other side; it is sent between frames.
@@ -102,22 +102,20 @@ fn join(length: usize, byte: u8, bytes: &mut [u8; FRAME_MAX]) -> Turn
     let escape = bytes[1];
     let control = bytes[2];
     let length_byte = bytes[3];
-    match frame_size(escape, control, length_byte) {
-        Size::Bad => Turn {
+    let Some(size) = frame_size(escape, control, length_byte) else {
+        return Turn {
             place: Place::Passing,
             length: joined,
             ended: true,
-        },
-        Size::Bytes(size) => {
-            if joined < size {
-                return under_way(joined);
-            }
-            Turn {
-                place: Place::Between,
-                length: joined,
-                ended: true,
-            }
-        }
+        };
+    };
+    if joined < size {
+        return under_way(joined);
+    }
+    Turn {
+        place: Place::Between,
+        length: joined,
+        ended: true,
     }
 }
 

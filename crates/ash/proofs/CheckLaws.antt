@@ -1,19 +1,12 @@
--- The check goes over the header and on over the payload, and is spread byte by byte.
+-- The check goes over the header and on over the payload.
 use mathlib.Core.Path.{◌≡◌, sym, ap, ◌∙◌}
 use mathlib.Core.List.{List, [], ◌∷◌, ◌++◌}
-use Prim.Native.Nat.{ℕ, ◌+◌, ◌*◌, ◌/◌, ◌%◌}
+use Prim.Native.Nat.{ℕ}
 use Rattle.crc.specs.Crc.{crc_of}
 use Rattle.crc.proofs.CrcLaws.{crc_append}
 use Rattle.ash.specs.Reserved.{flag_byte}
 use Rattle.ash.specs.Header.{header_escape, header_of}
-use Rattle.ash.specs.Check.{check_start, bit4, without_bit4, spread, check_over}
-
--- the three bytes, each by its part of the check
-pub spreads : (check high low first second : ℕ) → high ≡ bit4 (check / 0x100) → low ≡ bit4 (check % 0x100)
-    → first ≡ without_bit4 (check / 0x100) → second ≡ without_bit4 (check % 0x100)
-    → first ∷ second ∷ (high * 0x80 + low * 0x40) ∷ [] ≡ spread check
-unfolding spread
-spreads check high low first second h l f s = rw (h, l, f, s)
+use Rattle.ash.specs.Check.{check_start, spread, check_over}
 
 -- the check bytes, once the check has gone over the header, two bytes at once, and the payload
 pub check_over_law : (control size : ℕ) (payload : List ℕ) (escape : ℕ) (opened begun done : ℕ) (bytes : List ℕ)

@@ -1,47 +1,46 @@
--- A payload that was unstuffed is no longer than the bytes that were sent, so an array for 57 bytes holds all of it.
-use mathlib.Core.Path.{◌≡◌, refl, sym, ap, ◌∙◌}
+-- A payload that was unstuffed stands in the array, and was sent as just the bytes that were read: so it is what is checked.
+use mathlib.Core.Path.{◌≡◌, refl, ap}
 use mathlib.Core.List.{List}
 use Prim.Native.Nat.{ℕ, ◌≤◌}
 use native.Mathlib.Omega.{arith}
 use lib.ListN.{length, take}
+use Rattle.std.specs.Prelude.{Some, None}
 use Rattle.slices.proofs.Impossible.{impossible}
-use Rattle.slices.proofs.PutLaws.{length_put, put_first}
-use Rattle.ash.specs.Stuffing.{payload_max, stuff, Unstuffed, payload, broken, unstuff}
+use Rattle.slices.proofs.PutLaws.{put_first}
+use Rattle.ash.specs.Stuffing.{Unstuffed, payload, broken, unstuff}
 use Rattle.ash.specs.ReaderSteps.{unstuff_answer, UnstuffsAs}
-use Rattle.ash.specs.declared.stuffing.Unstuffed as declared
-use Rattle.ash.specs.declared.stuffing.Unstuffed.TheVariants as answer
-use Rattle.ash.proofs.StuffLaws.{stuff_least}
+use Rattle.refusals.specs.Numbers.{bad_stuffing}
+use Rattle.ash.specs.Check.{check_over}
+use Rattle.ash.specs.Reading.{compared, checked}
+use Rattle.ash.specs.Answers.{ReadsAs}
+use Rattle.ash.specs.declared.reader.FrameRead.{FrameRead}
+use Rattle.ash.specs.declared.reader.FrameRead.TheVariants.{Refused}
 use Rattle.ash.proofs.StuffTheorems.{stuff_unstuff}
 
-pub unstuff_bounded : (sent p : List ℕ) → unstuff sent ≡ payload p → length p ≤ length sent
-unstuff_bounded sent p e = omega (arith, stuff_least p, ap length (stuff_unstuff sent p e))
-
--- what stands in the array where no rule was broken
-pub record Filled (sent : List ℕ) (r : ℕ) (exit : List ℕ) : Type 0 where
-  pub bytes : List ℕ
-  pub unstuffs : unstuff sent ≡ payload bytes
-  pub first : take r exit ≡ bytes
-  pub size : length (stuff bytes) ≡ length sent
-  pub fits : r ≤ length exit
-
-pub answer_broken : (found : Unstuffed) → answer.Broken ≡ unstuff_answer found → found ≡ broken
-answer_broken broken e = refl
-answer_broken (payload p) e = impossible cc
-
-pub filled : (sent : List ℕ) → length sent ≤ payload_max → (array exit : List ℕ) (told : declared.Unstuffed) (r : ℕ) → length array ≡ payload_max
-    → UnstuffsAs (unstuff sent) array told exit → told ≡ answer.Payload r → Filled sent r exit
-filled sent short array exit told r all u is-told = cases (unstuff sent) refl (sym is-told ∙ u.answers)
+checked_found : (control : ℕ) (check sent array exit : List ℕ) (n : ℕ) → n ≤ length array → UnstuffsAs (unstuff sent) array (Some n) exit
+    → checked control check (unstuff sent) ≡ compared control check (check_over control (length sent) (take n exit)) (take n exit)
+checked_found control check sent array exit n room u = cases (unstuff sent) refl u.answers
   where
-    cases : (found : Unstuffed) → unstuff sent ≡ found → answer.Payload r ≡ unstuff_answer found → Filled sent r exit
+    cases : (found : Unstuffed) → unstuff sent ≡ found → Some n ≡ unstuff_answer found
+        → checked control check found ≡ compared control check (check_over control (length sent) (take n exit)) (take n exit)
     cases broken is g = impossible cc
     cases (payload p) is g =
-        let size : r ≡ length p = cc in
-        let put = u.array_filled p is in
-        let room : length p ≤ length array = omega (arith, unstuff_bounded sent p is) in
-        record {
-          bytes = p;
-          unstuffs = is;
-          first = rw (put, size) (put_first array p room);
-          size = ap length (stuff_unstuff sent p is);
-          fits = rw put (omega (arith, length_put array 0 p));
-        }
+        let size : n ≡ length p = cc in
+        let bytes : take n exit ≡ p = rw (u.array_filled p is, size) (put_first array p (omega arith)) in
+        rw (bytes, ap length (stuff_unstuff sent p is))
+
+-- what was unstuffed and answered is checked
+pub checked_payload : (control : ℕ) (check sent array exit out out₁ : List ℕ) (n : ℕ) (answer : FrameRead) → length sent ≤ length array → n ≤ length sent
+    → UnstuffsAs (unstuff sent) array (Some n) exit
+    → ReadsAs (compared control check (check_over control (length sent) (take n exit)) (take n exit)) out answer out₁
+    → ReadsAs (checked control check (unstuff sent)) out answer out₁
+checked_payload control check sent array exit out out₁ n answer room few u r = rw (checked_found control check sent array exit n (omega arith) u) r
+
+-- and what breaks a rule is refused
+pub checked_broken : (control : ℕ) (check sent array exit out : List ℕ) → UnstuffsAs (unstuff sent) array None exit
+    → ReadsAs (checked control check (unstuff sent)) out (Refused bad_stuffing) out
+checked_broken control check sent array exit out u = cases (unstuff sent) u.answers
+  where
+    cases : (found : Unstuffed) → None ≡ unstuff_answer found → ReadsAs (checked control check found) out (Refused bad_stuffing) out
+    cases broken g = record { answers = refl; output = refl }
+    cases (payload p) g = impossible cc

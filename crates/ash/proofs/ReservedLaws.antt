@@ -37,17 +37,6 @@ without_bit_4 b h = not_reserved b (λ e. omega arith) (λ e. omega arith) (λ e
 pub unlike_reserved : (b v : ℕ) → reserved b ≡ false → reserved v ≡ true → b ≡ v → ⊥
 unlike_reserved b v free is e = impossible cc
 
--- a byte that cannot be other than the five is reserved
-pub reserved_unless : (b : ℕ) → ((b ≡ 0x7e → ⊥) → (b ≡ 0x7d → ⊥) → (b ≡ 0x11 → ⊥) → (b ≡ 0x13 → ⊥) → (b ≡ 0xf8 → ⊥) → ⊥) → reserved b ≡ true
-unfolding reserved
-reserved_unless b h = cases (reserved b) refl
-  where
-    cases : (t : Bool) → reserved b ≡ t → t ≡ true
-    cases true e = refl
-    cases false e =
-        let unlike : (v : ℕ) → reserved v ≡ true → b ≡ v → ⊥ = λ v. unlike_reserved b v e in
-        absurd (h (unlike 0x7e refl) (unlike 0x7d refl) (unlike 0x11 refl) (unlike 0x13 refl) (unlike 0xf8 refl))
-
 -- bit 5 flipped twice is as it was
 pub flipped_twice : (b : ℕ) → flipped (flipped b) ≡ b
 flipped_twice b = xor_twice b 0x20

@@ -1,19 +1,13 @@
 -- A byte of payload becomes two bytes where it is reserved, else it stays one.
-use mathlib.Core.Path.{◌≡◌, refl}
+use mathlib.Core.Path.{◌≡◌}
 use mathlib.Core.Bool.{Bool, true, false, cond}
 use mathlib.Core.List.{List, [], ◌∷◌}
 use Prim.Native.Nat.{ℕ, ◌*◌, ◌≤◌}
 use native.Mathlib.Omega.{arith}
 use lib.ListN.{length}
-use Rattle.slices.specs.Put.{put_at}
 use Rattle.slices.proofs.EachLaws.{length_each, least_each}
 use Rattle.ash.specs.Reserved.{escape_byte, reserved, flipped}
 use Rattle.ash.specs.Stuffing.{stuff_byte, stuff}
-
--- what was put and how many bytes, if they are those that a byte becomes
-pub stuffed_as : (d exit : List ℕ) (at b : ℕ) (xs : List ℕ) → stuff_byte b ≡ xs → exit ≡ put_at d at xs
-    → (length xs ≡ length (stuff_byte b)) × (exit ≡ put_at d at (stuff_byte b))
-stuffed_as d exit at b xs e put = rw e (refl, put)
 
 pub byte_escaped : (b : ℕ) → reserved b ≡ true → stuff_byte b ≡ escape_byte ∷ flipped b ∷ []
 byte_escaped b e = rw e

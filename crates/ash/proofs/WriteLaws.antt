@@ -1,11 +1,11 @@
--- A frame is put in three parts, one behind the other; each test of the writer has its law.
+-- A frame is put in three parts, one behind the other; and what the writer answers, by the room and the payload.
 use mathlib.Core.Path.{◌≡◌, refl, ◌∙◌}
 use mathlib.Core.List.{List, [], ◌∷◌, ◌++◌}
 use Prim.Native.Nat.{ℕ, ◌+◌, ◌≤◌, ◌<◌}
 use native.Mathlib.Omega.{arith}
 use lib.ListN.{length, length-append}
 use borrow.Author.Tests.{lt-ltb, le-ltb}
-use Rattle.refusals.specs.Numbers.{short_output, bad_length}
+use Rattle.refusals.specs.Numbers.{bad_length}
 use Rattle.slices.specs.Put.{put_at}
 use Rattle.slices.specs.Written.{written, refused}
 use Rattle.slices.proofs.PutLaws.{put_append}
@@ -55,11 +55,6 @@ module _ (room control : ℕ) (payload : List ℕ) where
   pub payload_over : payload_max < length (stuff payload) → write_frame room control payload ≡ refused bad_length
   unfolding write_frame
   payload_over h = rw (lt-ltb payload_max (length (stuff payload)) h)
-
-  pub no_room : length (stuff payload) ≤ payload_max → room < 7 + length (stuff payload) → write_frame room control payload ≡ refused short_output
-  unfolding write_frame
-  no_room h s =
-      rw (le-ltb payload_max (length (stuff payload)) h) (writing.too_little_room room (frame_of control payload) _ (frame_length control payload) s)
 
   pub room_enough : length (stuff payload) ≤ payload_max → 7 + length (stuff payload) ≤ room
       → write_frame room control payload ≡ written (frame_of control payload)

@@ -6,6 +6,7 @@ use crate::header::header_escape;
 use crate::{CHECK_START, FLAG};
 
 // The three check bytes of a control and a length byte, before escaping, and a payload, before stuffing.
+#[tactic(auto, using(crate::proofs::CheckLaws::check_over_law))]
 pub(crate) fn check_bytes(control: u8, length: u8, payload: &[u8]) -> [u8; 3]
     ensures { result ≡ check_over control length payload.now }
 {
@@ -15,11 +16,11 @@ pub(crate) fn check_bytes(control: u8, length: u8, payload: &[u8]) -> [u8; 3]
 }
 
 // A check in three bytes, none of which has bit 4 set, as all reserved bytes have.
+#[tactic(auto, unfolding(crate::specs::Check::spread))]
 fn spread_check(check: u16) -> [u8; 3]
     ensures { result ≡ spread check }
 {
-    let first = (check / 0x100) as u8;
-    let second = (check % 0x100) as u8;
+    let [first, second] = check.to_be_bytes();
     let bits = bit_4(first) * 0x80 + bit_4(second) * 0x40;
     [without_bit_4(first), without_bit_4(second), bits]
 }

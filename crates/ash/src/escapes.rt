@@ -8,6 +8,7 @@ use crate::{ESCAPE, FLAG, UNNAMED, XOFF, XON};
 const FLIPPED_BIT: u8 = 0x20;
 
 // Whether a byte is one that the link reserves.
+#[tactic(auto, unfolding(crate::specs::Reserved::reserved))]
 pub(crate) fn is_reserved(byte: u8) -> bool
     ensures { result ≡ reserved byte }
 {

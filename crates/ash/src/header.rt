@@ -48,6 +48,7 @@ pub(crate) fn length_escaped(escape: u8) -> bool
 
 // Whether a sent header sets no reserved bit, and escapes control and length where they have to be and
 // only there.
+#[tactic(auto, unfolding(crate::specs::Header::good_header))]
 pub(crate) fn good_header(escape: u8, control: u8, length: u8) -> bool
     ensures { result ≡ good_header escape control length }
 {

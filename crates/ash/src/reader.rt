@@ -9,7 +9,7 @@ ghost use Rattle.ash.specs.Answers.{ReadsAs};
 use crate::check::check_bytes;
 use crate::escapes::unescape;
 use crate::header::{control_escaped, good_header, length_escaped};
-use crate::stuffing::{Unstuffed, unstuff};
+use crate::stuffing::unstuff;
 use crate::{FLAG, FRAME_MIN, HEADER_SIZE, PAYLOAD_MAX};
 use refusals::{BAD_HEADER, BAD_LENGTH, BAD_STUFFING, OTHER_CHECK, SHORT_OUTPUT};
 
@@ -21,6 +21,7 @@ pub enum FrameRead {
 }
 
 // Reads one frame and puts its payload at the start of `out`. A refusal leaves `out` as it was.
+#[tactic(auto, unfolding(crate::specs::Reading::read_frame))]
 pub fn read_frame(bytes: &[u8], out: &mut [u8]) -> FrameRead
     ensures { ReadsAs (read_frame (length out.old) bytes.now) out.old result out.new }
 {
@@ -40,13 +41,11 @@ pub fn read_frame(bytes: &[u8], out: &mut [u8]) -> FrameRead
 fn flag_first(bytes: &[u8]) -> bool
     ensures { result ≡ flag_first bytes.now }
 {
-    if bytes.len() == 0 {
-        return false;
-    }
-    bytes[0] == FLAG
+    bytes.first() == Some(&FLAG)
 }
 
 // Reads a frame by its header: refusal 21 where that is bad.
+#[tactic(auto, unfolding(crate::specs::Reading::read_by_header))]
 fn read_by_header(bytes: &[u8], out: &mut [u8]) -> FrameRead
     requires { frame_min ≤ length bytes.now }
     ensures { ReadsAs (read_by_header bytes.now) out.old result out.new }
@@ -64,6 +63,7 @@ fn read_by_header(bytes: &[u8], out: &mut [u8]) -> FrameRead
 
 // Reads a frame whose header stands for these control and length bytes: refusal 22 where the length is
 // too long or not that of the bytes.
+#[tactic(auto, unfolding(crate::specs::Reading::read_by_length))]
 fn read_by_length(control: u8, length: u8, bytes: &[u8], out: &mut [u8]) -> FrameRead
     ensures { ReadsAs (read_by_length control length bytes.now) out.old result out.new }
 {
@@ -79,18 +79,17 @@ fn read_by_length(control: u8, length: u8, bytes: &[u8], out: &mut [u8]) -> Fram
 }
 
 // Reads a payload as it was sent: refusal 23 where it is stuffed wrongly.
+#[tactic(auto, using(crate::proofs::PayloadLaws::checked_broken))]
 fn read_payload(control: u8, sent: &[u8], check: &[u8], out: &mut [u8]) -> FrameRead
     requires { length sent.now ≤ payload_max }
     ensures { ReadsAs (checked control check.now (unstuff sent.now)) out.old result out.new }
 {
     let mut payload = [0u8; PAYLOAD_MAX];
-    match unstuff(sent, &mut payload) {
-        Unstuffed::Broken => FrameRead::Refused(BAD_STUFFING),
-        Unstuffed::Payload(length) => {
-            let size = sent.len() as u8;
-            hand_out(control, size, &payload[..length], check, out)
-        }
-    }
+    let Some(length) = unstuff(sent, &mut payload) else {
+        return FrameRead::Refused(BAD_STUFFING);
+    };
+    let size = sent.len() as u8;
+    hand_out(control, size, &payload[..length], check, out)
 }
 
 // Puts a payload at the start of `out`: refusal 24 where the check bytes are other than the writer's.

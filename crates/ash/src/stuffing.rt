@@ -1,5 +1,5 @@
 // The payload as it is sent: each reserved byte stands escaped behind an escape byte.
-ghost use Rattle.std.specs.Prelude.{◌≡◌, cond, ◌≤◌, length};
+ghost use Rattle.std.specs.Prelude.{◌≡◌, ◌≤◌, length, IfSome};
 ghost use Rattle.slices.specs.Put.{put_at};
 ghost use Rattle.ash.specs.Stuffing.{stuff_byte, stuff, unstuff};
 ghost use Rattle.ash.specs.ReaderSteps.{UnstuffsAs};
@@ -13,10 +13,8 @@ pub(crate) fn put_stuffed(out: &mut [u8], payload: &[u8]) -> usize
     ensures { (result ≡ length (stuff payload.now)) × (out.new ≡ put_at out.old 0 (stuff payload.now)) }
 {
     let mut to: usize = 0;
-    let mut i: usize = 0;
-    while i < payload.len() {
-        to += put_byte(out, to, payload[i]);
-        i += 1;
+    for byte in payload {
+        to += put_byte(out, to, *byte);
     }
     to
 }
@@ -26,49 +24,33 @@ fn put_byte(out: &mut [u8], at: usize, byte: u8) -> usize
     ensures { (result ≡ length (stuff_byte byte)) × (out.new ≡ put_at out.old at (stuff_byte byte)) }
 {
     if is_reserved(byte) {
-        let pair = [ESCAPE, flip(byte)];
-        slices::put(out, at, &pair);
+        slices::put(out, at, &[ESCAPE, flip(byte)]);
         return 2;
     }
-    let one = [byte];
-    slices::put(out, at, &one);
+    slices::put(out, at, &[byte]);
     1
 }
 
-// What sent bytes turned out to be: so many bytes of payload, or that they break a rule.
-#[derive(Clone, Copy)]
-pub enum Unstuffed {
-    Payload(usize),
-    Broken,
-}
-
-// Unstuffs the bytes `sent` to the start of `payload`. What a broken rule leaves there is open.
-pub(crate) fn unstuff(sent: &[u8], payload: &mut [u8]) -> Unstuffed
+// Unstuffs the bytes `sent` to the start of `payload`, and answers how many bytes that are; none where
+// they break a rule. What `payload` then holds is open.
+pub(crate) fn unstuff(sent: &[u8], payload: &mut [u8]) -> Option<usize>
     requires { length sent.now ≤ length payload.old }
-    ensures { UnstuffsAs (unstuff sent.now) payload.old result payload.new }
+    ensures read { UnstuffsAs (unstuff sent.now) payload.old result payload.new }
+    ensures few { IfSome result (λ n. n ≤ length sent.now) }
 {
     let mut held: usize = 0;
-    let mut i: usize = 0;
-    while i < sent.len() {
-        let escaped = sent[i] == ESCAPE;
-        let at = i + escape_size(escaped);
-        if sent.len() <= at {
-            return Unstuffed::Broken;
+    let mut escaped = false;
+    for byte in sent {
+        if !escaped && *byte == ESCAPE {
+            escaped = true;
+            continue;
         }
-        let byte = sent[at];
-        if !rightly_escaped(escaped, byte) {
-            return Unstuffed::Broken;
+        if !rightly_escaped(escaped, *byte) {
+            return None;
         }
-        payload[held] = unescape(escaped, byte);
+        payload[held] = unescape(escaped, *byte);
         held += 1;
-        i = at + 1;
+        escaped = false;
     }
-    Unstuffed::Payload(held)
-}
-
-// How many bytes stand before a sent byte to escape it.
-fn escape_size(escaped: bool) -> usize
-    ensures { result ≡ cond escaped 1 0 }
-{
-    if escaped { 1 } else { 0 }
+    if escaped { None } else { Some(held) }
 }

@@ -16,6 +16,7 @@ pub use slices::Written;
 
 // Writes the frame of a control byte and a payload at the start of `out`: refusal 22 for a payload
 // over 57 bytes as sent, then refusal 7 where `out` has too little room.
+#[tactic(auto, using(crate::proofs::WriteLaws::frame_length, crate::proofs::WriteLaws::frame_parts, slices::proofs::PutLaws::put_told), unfolding(crate::specs::Writing::write_frame, slices::specs::Written::fitted))]
 pub fn write_frame(control: u8, payload: &[u8], out: &mut [u8]) -> Written
     ensures { WritesAs (write_frame (length out.old) control payload.now) out.old result out.new }
 {

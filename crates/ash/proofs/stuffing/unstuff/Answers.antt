@@ -1,57 +1,24 @@
-use mathlib.Core.Path.{refl, sym, ap, ◌∙◌}
-use Prim.Native.Nat.{◌+◌}
-use native.Mathlib.Omega.{arith}
-use lib.Dec.{eqb}
-use lib.ListN.{get_or, length-set}
-use Rattle.ash.specs.Reserved.{escape_byte}
-use Rattle.ash.proofs.HeaderLaws.{granted_most}
-use Rattle.ash.proofs.UnstuffLaws.{unstuff_byte, unstuff_fault, unstuff_cut, unstuff_none, nothing_held, one_more, all_held, stopped}
+use Rattle.slices.proofs.Impossible.{impossible}
+use Rattle.ash.proofs.UnstuffLaws.{escape_read, byte_read, fault_read, escape_last, all_held}
 use Rattle.ash.proofs.stuffing.unstuff.Goals as goal
+use Rattle.ash.proofs.stuffing.unstuff.Goals.{else-not-escaped-via-then-not-escaped+else-byte-eq-ESCAPE, else-not-escaped-via-else-not-escaped}
 
-pub loop-i-init : goal.loop-i-init
-loop-i-init c = (omega arith, omega arith, refl, nothing_held _ _)
+pub loop-byte-preserved-then-byte-eq-ESCAPE : goal.loop-byte-preserved-then-byte-eq-ESCAPE
+loop-byte-preserved-then-byte-eq-ESCAPE c = escape_read c.loop-byte.invariant c.loop-byte-test.true c.if-not-escaped.true c.if-byte-eq-ESCAPE.true
 
-pub overflow_add-at : goal.overflow_add-at
-overflow_add-at c =
-    let sent = c.args.sent.now in
-    omega (arith, c.escape_size.ensures, granted_most (eqb (get_or sent c.loop-i.i 0) escape_byte) 1)
+pub returns-then-not-rightly_escaped-clause-read : goal.returns-then-not-rightly_escaped-clause-read
+returns-then-not-rightly_escaped-clause-read c =
+    let fault = fault_read c.loop-byte.invariant c.loop-byte-test.true in
+    elim c.else-not-escaped.branch [
+      | else-not-escaped-via-then-not-escaped+else-byte-eq-ESCAPE w ↦ fault (λ e. w.if-byte-eq-ESCAPE.false) c.if-not-rightly_escaped.ensures
+      | else-not-escaped-via-else-not-escaped w ↦ fault (λ e is. impossible cc) c.if-not-rightly_escaped.ensures
+    ]
 
-pub shape_of-payload-then-sent-at : goal.shape_of-payload-then-sent-at
-shape_of-payload-then-sent-at c = c.loop-i.invariant.2
+pub loop-byte-preserved : goal.loop-byte-preserved
+loop-byte-preserved c = byte_read c.loop-byte.invariant c.loop-byte-test.true c.if-not-rightly_escaped.ensures _ c.unescape.ensures
 
-pub returns-then-sent-at : goal.returns-then-sent-at
-returns-then-sent-at c =
-    let a = c.args in
-    let place = ap (λ n. c.loop-i.i + n) c.escape_size.ensures in
-    stopped a.sent.now a.payload.now c.loop-i.payload c.loop-i.i c.loop-i.held c.loop-i.invariant.3
-    (unstuff_cut a.sent.now c.loop-i.i _ _ refl place c.loop-i-test.true c.if-sent-at.true)
+pub returns-then-escaped-clause-read : goal.returns-then-escaped-clause-read
+returns-then-escaped-clause-read c = escape_last c.loop-byte.invariant c.loop-byte-test.false c.if-escaped.true
 
-pub shape_of-payload-then-not-rightly_escaped : goal.shape_of-payload-then-not-rightly_escaped
-shape_of-payload-then-not-rightly_escaped c = c.loop-i.invariant.2
-
-pub returns-then-not-rightly_escaped : goal.returns-then-not-rightly_escaped
-returns-then-not-rightly_escaped c =
-    let a = c.args in
-    let place = ap (λ n. c.loop-i.i + n) c.escape_size.ensures in
-    let wrong = sym c.rightly_escaped.ensures ∙ c.if-not-rightly_escaped.true in
-    stopped a.sent.now a.payload.now c.loop-i.payload c.loop-i.i c.loop-i.held c.loop-i.invariant.3
-    (unstuff_fault a.sent.now c.loop-i.i _ _ refl place c.if-sent-at.false wrong)
-
-pub loop-i-preserved : goal.loop-i-preserved
-loop-i-preserved c =
-    let a = c.args in
-    let place = ap (λ n. c.loop-i.i + n) c.escape_size.ensures in
-    let right = sym c.rightly_escaped.ensures ∙ c.if-not-rightly_escaped.false in
-    let next = unstuff_byte a.sent.now c.loop-i.i _ _ refl place c.if-sent-at.false right in (
-      omega arith,
-      omega arith,
-      length-set c.loop-i.payload c.loop-i.held _ ∙ c.loop-i.invariant.2,
-      one_more a.sent.now a.payload.now c.loop-i.payload c.loop-i.i c.loop-i.held _ _ c.loop-i.invariant.3 (rw (← c.unescape.ensures) at next),
-    )
-
-pub shape_of-payload : goal.shape_of-payload
-shape_of-payload c = c.loop-i.invariant.2
-
-pub returns : goal.returns
-returns c =
-    all_held c.args.sent.now c.args.payload.now c.loop-i.payload c.loop-i.i c.loop-i.held c.loop-i.invariant.3 (unstuff_none c.args.sent.now c.loop-i.i c.loop-i-test.false)
+pub returns-else-escaped-clause-read : goal.returns-else-escaped-clause-read
+returns-else-escaped-clause-read c = all_held c.loop-byte.invariant c.loop-byte-test.false c.if-escaped.false

@@ -7,13 +7,13 @@ use Prim.Native.Nat.{ℕ, ◌≤◌, min}
 use native.Mathlib.Nat.{min-eq_left}
 use native.Mathlib.Omega.{arith}
 use lib.Dec.{ltb}
-use lib.ListN.{length, take}
+use lib.ListN.{length, take, replicate}
 use borrow.Author.Tests.{ltb-true, ltb-false}
 use Rattle.slices.specs.Put.{put_at}
 use Rattle.slices.proofs.PutLaws.{put_first}
 use Rattle.cutter.specs.Cutting.{Place, inside, Step, goes_on, hands_on, place_behind, handed_on, frames_from, place_after}
 use Rattle.ash.specs.Size.{frame_max}
-use Rattle.cutter.specs.Calls.{held_max, no_bytes, place_in, cutter_of, walk_of, Call, call_of, walk_call, short_call, cut_of, cut_by}
+use Rattle.cutter.specs.Calls.{held_max, place_in, cutter_of, walk_of, Call, call_of, walk_call, short_call, cut_of, cut_by}
 use Rattle.cutter.specs.History.{Left, frame_left}
 use Rattle.cutter.specs.declared.state.Cutter.{Cutter}
 use Rattle.cutter.specs.declared.state.Cut.{Cut}
@@ -28,7 +28,7 @@ stands : {place : Place} → Reached place → place_in (cutter_of place) ≡ pl
 stands at_between = refl
 stands (at_inside {held} u) =
     let least : min (length held) held_max ≡ length held = min-eq_left u.few in
-    rw least (ap inside (put_first no_bytes held (omega (arith, u.few))))
+    rw least (ap inside (put_first (replicate frame_max 0) held (omega (arith, u.few))))
 stands at_passing = refl
 
 -- what a call does at a place: it takes bytes of its piece, and hands on their frames

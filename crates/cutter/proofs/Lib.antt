@@ -1,4 +1,3 @@
-pub mod PlaceLaws
 pub mod TurnLaws
 pub mod JoinLaws
 pub mod WalkLaws

@@ -4,11 +4,11 @@ use mathlib.Core.Path.{◌≡◌, refl, sym, ap, ◌∙◌}
 use mathlib.Core.List.{List, [], ◌∷◌, ◌++◌, append_assoc}
 use Prim.Native.Nat.{ℕ, zero, suc, ◌≤◌, ◌<◌}
 use native.Mathlib.Omega.{arith}
-use lib.ListN.{length, take, drop, length-drop, take-append-drop}
+use lib.ListN.{length, take, drop, replicate, length-drop, take-append-drop}
 use Rattle.slices.proofs.Impossible.{impossible}
 use Rattle.cutter.specs.Cutting.{Step, goes_on, hands_on, handed_on, frames_from, frames_of}
 use Rattle.ash.specs.Size.{frame_max}
-use Rattle.cutter.specs.Calls.{no_bytes, place_in, walk_of, Call, call_of, cut_of}
+use Rattle.cutter.specs.Calls.{place_in, walk_of, Call, call_of, cut_of}
 use Rattle.cutter.specs.History.{Offer, Left, line_taken, all_frames, joined}
 use Rattle.cutter.specs.declared.state.Answer.{Answer}
 use Rattle.cutter.specs.declared.state.Answer.TheVariants.{Nothing}
@@ -101,7 +101,7 @@ module _ (pieces : List (List ℕ)) (behind : (cutter : Cutter) → Fed cutter p
       → ((rest : List ℕ) → length rest ≤ n → (cutter₁ : Cutter) → Fed cutter₁ (rest ∷ pieces)) → Fed cutter (piece ∷ pieces)
   offer n [] few cutter again = nothing_left cutter
   offer n (b ∷ bs) few cutter again =
-      let first = cut_by_law cutter (b ∷ bs) no_bytes in
+      let first = cut_by_law cutter (b ∷ bs) (replicate frame_max 0) in
       let call = cut_of cutter (b ∷ bs) frame_max in
       let takes = room_takes first (omega arith) in
       let fewer : length (drop call.taken (b ∷ bs)) ≤ n = omega (arith, length-drop call.taken (b ∷ bs), takes.some (omega arith)) in

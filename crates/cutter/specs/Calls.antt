@@ -1,6 +1,7 @@
 -- 02, C-21: a call of the cutter takes a piece of the line, with a buffer for a frame lent beside it.
-use Rattle.std.specs.Prelude.{ℕ, suc, ◌-◌, min, ◌≡◌, cond, List, [], ◌∷◌, ltb, length, take, replicate}
+use Rattle.std.specs.Prelude.{ℕ, suc, ◌-◌, min, ◌≡◌, cond, List, [], ◌∷◌, ltb, length, take}
 use Rattle.refusals.specs.Numbers.{short_output}
+use Rattle.slices.specs.FixedBytes.{fixed_of}
 use Rattle.slices.specs.Put.{put_at}
 use Rattle.ash.specs.Size.{frame_max}
 use Rattle.cutter.specs.Cutting.{Place, between, inside, passing, Step, goes_on, hands_on, step_of}
@@ -23,16 +24,13 @@ place_of Passing bytes = passing
 
 -- a state's length is taken as at most so many, whoever made it
 abbrev pub place_in : Cutter → Place
-place_in cutter = place_of cutter.place (take (min cutter.length held_max) cutter.bytes)
+place_in cutter = place_of cutter.place (take (min cutter.held.length held_max) cutter.held.bytes)
 
 -- the state that a call leaves: beyond the bytes held it is 0
-abbrev pub no_bytes : List ℕ
-no_bytes = replicate frame_max 0
-
 abbrev pub cutter_of : Place → Cutter
-cutter_of between = record { place = Between; length = 0; bytes = no_bytes }
-cutter_of (inside held) = record { place = Inside; length = length held; bytes = put_at no_bytes 0 held }
-cutter_of passing = record { place = Passing; length = 0; bytes = no_bytes }
+cutter_of between = record { place = Between; held = fixed_of frame_max [] }
+cutter_of (inside held) = record { place = Inside; held = fixed_of frame_max held }
+cutter_of passing = record { place = Passing; held = fixed_of frame_max [] }
 
 abbrev pub fresh_cutter : Cutter
 fresh_cutter = cutter_of between

@@ -1,43 +1,34 @@
--- Steps of the cutter's code: what a byte and a walk leave in the array of bytes held. What stands there beyond them is open.
-use Rattle.std.specs.Prelude.{ℕ, ◌≤◌, ◌≡◌, Bool, true, false, List, [], ◌∷◌, eqb, length, take}
+-- Steps of the cutter's code: what a byte and a walk leave in the state. What stands in its array beyond the bytes held is open.
+use Rattle.std.specs.Prelude.{◌≤◌, ◌≡◌, Option, Some, None, [], ◌∷◌, length}
+use Rattle.slices.specs.FixedBytes.{shown}
 use Rattle.ash.specs.Reserved.{flag_byte}
-use Rattle.cutter.specs.Cutting.{wake_byte, Step, goes_on, hands_on}
 use Rattle.ash.specs.Size.{frame_max}
+use Rattle.cutter.specs.Cutting.{Place, Step, goes_on, hands_on}
 use Rattle.cutter.specs.Calls.{held_max, place_of, Walk}
 use Rattle.cutter.specs.declared.state.Place as kinds
-use Rattle.cutter.specs.declared.state.Place.TheVariants.{Between, Inside, Passing}
-use Rattle.cutter.specs.declared.turn.Turn.{Turn}
+use Rattle.cutter.specs.declared.state.Cutter.{Cutter}
 use Rattle.cutter.specs.declared.walk.Walked.{Walked}
 
 -- room in the array for one byte more
-pub record Room (held : ℕ) (array : List ℕ) : Type 0 where
-  pub within : held ≤ held_max
-  pub whole : length array ≡ frame_max
+pub record Room (cutter : Cutter) : Type 0 where
+  pub within : cutter.held.length ≤ held_max
+  pub whole : length cutter.held.bytes ≡ frame_max
 
--- what a turn and the bytes held stand for; behind a frame only the flag that ended it is held
-abbrev pub meaning : Bool → kinds.Place → List ℕ → Step
-meaning false place held = goes_on (place_of place held)
-meaning true place frame = hands_on frame (place_of place (flag_byte ∷ []))
+-- the place that a state stands for
+abbrev pub place_now : Cutter → Place
+place_now cutter = place_of cutter.place (shown cutter.held)
 
-abbrev pub meant : Turn → List ℕ → Step
-meant turn array = meaning turn.ended turn.place (take turn.length array)
+-- what a byte did: the line goes on; or what is held is a frame to be handed on, and behind it only the flag that ended it is held
+abbrev pub meant : Option kinds.Place → Cutter → Step
+meant None cutter = goes_on (place_now cutter)
+meant (Some place) cutter = hands_on (shown cutter.held) (place_of place (flag_byte ∷ []))
 
--- which bytes that are no flag are passed over
-abbrev pub passed_over : kinds.Place → ℕ → Bool
-passed_over Between b = eqb b wake_byte
-passed_over Inside b = false
-passed_over Passing b = true
+pub record TurnsAs (step : Step) (behind : Option kinds.Place) (exit : Cutter) : Type 0 where
+  pub means : meant behind exit ≡ step
+  pub room : behind ≡ None → exit.held.length ≤ held_max
+  pub fits : exit.held.length ≤ frame_max
+  pub whole : length exit.held.bytes ≡ frame_max
 
--- a frame that goes on
-abbrev pub under_way : ℕ → Turn
-under_way held = record { place = Inside; length = held; ended = false }
-
-pub record TurnsAs (step : Step) (turn : Turn) (exit : List ℕ) : Type 0 where
-  pub means : meant turn exit ≡ step
-  pub room : turn.ended ≡ false → turn.length ≤ held_max
-  pub fits : turn.length ≤ frame_max
-  pub whole : length exit ≡ frame_max
-
-pub record WalksAs (walk : Walk) (walked : Walked) (exit : List ℕ) : Type 0 where
-  pub last : TurnsAs walk.last walked.turn exit
+pub record WalksAs (walk : Walk) (walked : Walked) (exit : Cutter) : Type 0 where
+  pub last : TurnsAs walk.last walked.behind exit
   pub taken : walked.taken ≡ walk.taken

@@ -8,10 +8,10 @@ mod walk;
 ghost use Rattle.std.specs.Prelude.{◌≡◌, length};
 ghost use Rattle.cutter.specs.Calls.{fresh_cutter, cut_of, CutsAs};
 
-use crate::state::{Answer, Cut, Cutter, Place, at_place, held};
-use crate::walk::walk;
+use crate::state::{Answer, Cut, Cutter, HELD_MAX, Place, at_place};
 use ash::{FLAG, FRAME_MAX};
 use refusals::SHORT_OUTPUT;
+use slices::FixedBytes;
 
 // The state before the first byte.
 pub fn fresh() -> Cutter
@@ -19,14 +19,14 @@ pub fn fresh() -> Cutter
 {
     Cutter {
         place: Place::Between,
-        length: 0,
-        bytes: [0u8; FRAME_MAX],
+        held: FixedBytes::of(b""),
     }
 }
 
 // Takes bytes of the piece up to and with the one that makes a frame be handed on, or all of them, and
 // puts the frame at the start of `frame`. If that has under 64 bytes, the call is refused with 7 and
 // takes nothing.
+#[tactic(auto, unfolding(crate::specs::Calls::cut_of))]
 pub fn cut(cutter: Cutter, piece: &[u8], frame: &mut [u8]) -> Cut
     ensures { CutsAs (cut_of cutter piece.now (length frame.old)) frame.old result frame.new }
 {
@@ -37,24 +37,24 @@ pub fn cut(cutter: Cutter, piece: &[u8], frame: &mut [u8]) -> Cut
             answer: Answer::Refused(SHORT_OUTPUT),
         };
     }
-    let mut bytes = cutter.bytes;
-    let place = cutter.place;
-    let walked = walk(piece, place, held(cutter.length), &mut bytes);
-    let turn = walked.turn;
-    let next = turn.place;
-    let shown = slices::first(&bytes, turn.length);
-    if !turn.ended {
-        return Cut {
-            cutter: at_place(next, shown),
-            taken: walked.taken,
+    let mut line = cutter;
+    line.held.length = line.held.length.min(HELD_MAX);
+    let walked = line.walk(piece);
+    let held = line.held.as_slice();
+    let taken = walked.taken;
+    match walked.behind {
+        None => Cut {
+            cutter: at_place(line.place, held),
+            taken,
             answer: Answer::Nothing,
-        };
-    }
-    slices::put(frame, 0, shown);
-    let flag = [FLAG];
-    Cut {
-        cutter: at_place(next, &flag),
-        taken: walked.taken,
-        answer: Answer::Frame(turn.length),
+        },
+        Some(place) => {
+            slices::put(frame, 0, held);
+            Cut {
+                cutter: at_place(place, &[FLAG]),
+                taken,
+                answer: Answer::Frame(held.len()),
+            }
+        }
     }
 }

@@ -4,11 +4,12 @@ use mathlib.Core.Path.{◌≡◌, refl, sym, ap, ◌∙◌}
 use mathlib.Core.Bool.{Bool, true, false, cond, not}
 use mathlib.Core.List.{List, [], ◌∷◌, ◌++◌, append_assoc, append-nil}
 use mathlib.Core.Option.{Option, some, none}
-use Prim.Native.Nat.{ℕ, suc, ◌+◌, ◌/◌, ◌%◌, ◌≤◌, ◌<◌}
+use Prim.Native.Nat.{ℕ, ◌/◌, ◌%◌, ◌≤◌, ◌<◌}
 use native.Mathlib.Omega.{arith}
 use lib.ListN.{length, length-append}
 use lib.Seq.{take-append_seam, drop-append_seam}
 use borrow.Author.Tests.{lt-ltb, le-leb, not-true}
+use Rattle.std.specs.Prelude.{Some}
 use Rattle.slices.specs.Same.{same_bytes}
 use Rattle.slices.specs.HighFirst.{pair_of}
 use Rattle.slices.proofs.Impossible.{impossible}
@@ -49,21 +50,18 @@ module _ (name : List ℕ) (later : List (List ℕ)) where
       rw (valid_there before good.valid, new_there before good.once, lt-ltb (length before) limit few)
 
   -- the field of a name is a whole one
-  field_whole : field_of (name_field name ++ fields_of later) ≡ some (length name)
+  field_whole : Some (name, fields_of later) ≡ field_of (name_field name ++ fields_of later)
   unfolding field_of
   field_whole =
       let size : pair_of (length name / 256) (length name % 256) ≡ length name = omega arith in
       let fits : length name ≤ length (name ++ fields_of later) = omega (arith, length-append name (fields_of later)) in
-      rw (size, le-leb (length name) (length (name ++ fields_of later)) fits)
+      rw (size, le-leb (length name) (length (name ++ fields_of later)) fits, take-append_seam name (fields_of later), drop-append_seam name (fields_of later))
 
 -- its name joins, and the fields behind it are read by the same rule
 next_joins : (limit : ℕ) (before : List (List ℕ)) (name : List ℕ) (names : List (List ℕ))
     → names_from limit 0 before (fields_of (name ∷ names)) ≡ cond (may_join limit before name) (names_from limit 0 (before ++ (name ∷ [])) (fields_of names)) none
 unfolding fields_of
-next_joins limit before name names =
-    let past : length name + 3 ≡ suc (suc (suc (length name))) = omega arith in
-    field_next limit before (fields_of (name ∷ names)) (length name) (field_whole name names)
-    ∙ rw (past, take-append_seam name (fields_of names), drop-append_seam name (fields_of names))
+next_joins limit before name names = field_next name (fields_of names) limit before (fields_of (name ∷ names)) (field_whole name names)
 
 all_join : {limit : ℕ} (before names : List (List ℕ)) → Good limit (before ++ names) → names_from limit 0 before (fields_of names) ≡ some (before ++ names)
 unfolding names_from fields_of

@@ -1,5 +1,5 @@
 -- The laws of watching: one name more stands in the first unused row of a board, or it is refused and the board is as it was.
-use mathlib.Core.Path.{◌≡◌, refl, ap, ◌∙◌}
+use mathlib.Core.Path.{◌≡◌, refl, sym, ap, ◌∙◌}
 use mathlib.Core.Bool.{Bool, true, false, not, ◌&&◌}
 use mathlib.Core.List.{List, [], ◌∷◌, ◌++◌, map}
 use mathlib.Core.Option.{Option, some, none}
@@ -8,13 +8,14 @@ use native.Mathlib.Omega.{arith}
 use lib.Dec.{ltb}
 use lib.ListN.{length, replicate, length-append, length-map}
 use borrow.Author.Tests.{le-ltb}
+use Rattle.std.specs.Prelude as rust
+use Rattle.std.specs.Prelude.{Some, None}
 use Rattle.packet.specs.Names.{valid_name}
 use Rattle.slices.proofs.Impossible.{impossible}
-use Rattle.rows.specs.Names.{place_of, is_in}
+use Rattle.rows.specs.Names.{place_of, is_some, is_in}
 use Rattle.rows.specs.Rows.{row_count, row_name, row_names, watched, fresh_row, change_at, put_row, board_of, as_place}
 use Rattle.board.specs.WatchList.{Good, may_join, watch_board, join_board, accepted_with, refused_with}
 use Rattle.board.specs.declared.list.Listed.TheVariants.{Accepted, Refused}
-use Rattle.rows.specs.declared.Place.TheVariants.{Row as At, Nowhere}
 use Rattle.rows.specs.declared.Row.{Row}
 use Rattle.rows.specs.declared.Board.{Board}
 use Rattle.rows.proofs.NameLaws.{place_empty, in_used, room}
@@ -74,38 +75,50 @@ refused_stays {limit} names name number o e = cases (may_join limit names name) 
         let r = watch_more names name o h in
         impossible cc
 
--- a name on any board, in the order of the code
-module _ (board : Board) (name : List ℕ) where
-  -- a bad name
-  pub watch_bad : valid_name name ≡ false → watch_board row_count board name ≡ refused_with board
-  unfolding watch_board may_join
-  watch_bad bad = rw bad
-
-  module _ (valid : valid_name name ≡ true) where
-    -- a name that a row has
-    pub watch_again : {place : ℕ} → place_of name (row_names board) ≡ some place → watch_board row_count board name ≡ refused_with board
-    unfolding watch_board may_join
-    watch_again e = rw (valid, in_used name (row_names board) (valid_fit name valid).some, e)
-
-    module _ (rows : length board.rows ≡ row_count) where
-      has_room : ltb (length (watched board)) row_count ≡ is_in [] (row_names board)
-      has_room = let all : length (row_names board) ≡ row_count = length-map board.rows row_name ∙ rows in rw (← all) (room (row_names board))
-
-      -- no row is unused
-      pub watch_full : place_of [] (row_names board) ≡ none → watch_board row_count board name ≡ refused_with board
-      unfolding watch_board may_join
-      watch_full e = rw (valid, has_room, e, never (not (is_in name (watched board))))
-
-      -- the first unused row takes it
-      pub watch_first : {place : ℕ} → place_of name (row_names board) ≡ none → place_of [] (row_names board) ≡ some place → watch_board row_count board name ≡ accepted_with (put_row place (fresh_row name) board)
-      unfolding watch_board may_join
-      watch_first new e = rw (valid, in_used name (row_names board) (valid_fit name valid).some, new, has_room, e)
-
 -- what the search for a name answered
-pub place_row : (o : Option ℕ) (place : ℕ) → as_place o ≡ At place → o ≡ some place
+pub place_row : (o : Option ℕ) (place : ℕ) → Some place ≡ as_place o → o ≡ some place
 place_row (some found) place e = cc
 place_row none place e = impossible cc
 
-pub place_nowhere : (o : Option ℕ) → as_place o ≡ Nowhere → o ≡ none
+pub place_nowhere : (o : Option ℕ) → None ≡ as_place o → o ≡ none
 place_nowhere (some found) e = impossible cc
 place_nowhere none e = refl
+
+place_there : (o : Option ℕ) → rust.is_some (as_place o) ≡ is_some o
+place_there (some found) = refl
+place_there none = refl
+
+-- a name on any board, in the order of the code
+module _ (board : Board) (name : List ℕ) where
+  -- a bad name
+  pub watch_bad : false ≡ valid_name name → watch_board row_count board name ≡ refused_with board
+  unfolding watch_board may_join
+  watch_bad bad = rw (← bad)
+
+  module _ (valid : true ≡ valid_name name) where
+    -- no unused row has the name
+    in_rows : is_in name (watched board) ≡ is_in name (row_names board)
+    in_rows = in_used name (row_names board) (valid_fit name (sym valid)).some
+
+    module _ {found : rust.Option ℕ} (is : found ≡ as_place (place_of name (row_names board))) where
+      told : rust.is_some found ≡ is_in name (row_names board)
+      told = rw is (place_there (place_of name (row_names board)))
+
+      -- a name that a row has
+      pub watch_again : true ≡ rust.is_some found → watch_board row_count board name ≡ refused_with board
+      unfolding watch_board may_join
+      watch_again there = rw (← valid, in_rows, ← told, ← there)
+
+      module _ (new : false ≡ rust.is_some found) (rows : length board.rows ≡ row_count) where
+        has_room : ltb (length (watched board)) row_count ≡ is_in [] (row_names board)
+        has_room = let all : length (row_names board) ≡ row_count = length-map board.rows row_name ∙ rows in rw (← all) (room (row_names board))
+
+        -- no row is unused
+        pub watch_full : None ≡ as_place (place_of [] (row_names board)) → watch_board row_count board name ≡ refused_with board
+        unfolding watch_board may_join
+        watch_full e = rw (← valid, has_room, place_nowhere _ e, never (not (is_in name (watched board))))
+
+        -- the first unused row takes it
+        pub watch_first : {place : ℕ} → Some place ≡ as_place (place_of [] (row_names board)) → watch_board row_count board name ≡ accepted_with (put_row place (fresh_row name) board)
+        unfolding watch_board may_join
+        watch_first {place} e = rw (← valid, in_rows, ← told, ← new, has_room, place_row _ place e)

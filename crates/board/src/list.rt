@@ -1,16 +1,13 @@
 // The watch list: which names the board shows.
-ghost use Rattle.std.specs.Prelude.{◌≡◌};
+ghost use Rattle.std.specs.Prelude.{◌≡◌, option_map};
 ghost use Rattle.rows.specs.Rows.{row_count};
 ghost use Rattle.board.specs.WatchList.{watch_board, watch_names, as_watched, refused_with};
-ghost use Rattle.board.specs.ListSteps.{field_of, as_field};
+ghost use Rattle.board.specs.ListSteps.{field_of};
 
-use rows::{Board, Place, find, fresh, fresh_row, put_row};
+use rows::{Board, find, fresh, fresh_row, put_row};
 
 // The tag of a name in a watch list.
 pub const NAME_TAG: u8 = 0x01;
-
-// A field's tag and length stand in front of its value.
-const FIELD_HEAD: usize = 3;
 
 // Whether what was asked to be watched is watched.
 #[derive(Clone, Copy)]
@@ -25,32 +22,22 @@ pub struct Watched {
     pub answer: Listed,
 }
 
-// The field that a list begins with: a name of so many bytes, or none.
-#[derive(Clone, Copy)]
-enum Field {
-    Name(usize),
-    Bad,
-}
-
 // The board of a watch list. Where the list is refused the board shows nothing of it.
 pub fn watch_list(fields: &[u8]) -> Watched
     ensures { result ≡ as_watched row_count (watch_names row_count fields.now) }
 {
     let mut board = fresh();
-    let mut at: usize = 0;
-    while at < fields.len() {
-        let rest = &fields[at..];
-        let Field::Name(size) = read_field(rest) else {
+    let mut rest = fields;
+    while !rest.is_empty() {
+        let Some((name, behind)) = read_field(rest) else {
             return refused(fresh());
         };
-        let end = size + FIELD_HEAD;
-        let watched = watch(board, &rest[FIELD_HEAD..end]);
-        let answer = watched.answer;
-        if let Listed::Refused(_) = answer {
+        let watched = watch(board, name);
+        if let Listed::Refused(_) = watched.answer {
             return refused(fresh());
         }
         board = watched.board;
-        at += end;
+        rest = behind;
     }
     Watched {
         board,
@@ -65,15 +52,14 @@ pub fn watch(board: Board, name: &[u8]) -> Watched
     if !packet::valid_name(name) {
         return refused(board);
     }
-    if let Place::Row(_) = find(board, name) {
+    if find(board, name).is_some() {
         return refused(board);
     }
-    let Place::Row(unused) = find(board, b"") else {
+    let Some(unused) = find(board, b"") else {
         return refused(board);
     };
-    let row = fresh_row(name);
     Watched {
-        board: put_row(board, unused, row),
+        board: put_row(board, unused, fresh_row(name)),
         answer: Listed::Accepted,
     }
 }
@@ -87,19 +73,13 @@ fn refused(board: Board) -> Watched
     }
 }
 
-// Reads the field that `rest` begins with.
-fn read_field(rest: &[u8]) -> Field
-    ensures { result ≡ as_field (field_of rest.now) }
+// Reads the name that `rest` begins with, if it begins with the field of one: the name, and the bytes
+// behind the field.
+fn read_field(rest: &[u8]) -> Option<(&[u8], &[u8])>
+    ensures { option_map (λ p. (p.0.now, p.1.now)) result ≡ field_of rest.now }
 {
-    if rest.len() < FIELD_HEAD {
-        return Field::Bad;
-    }
-    if rest[0] != NAME_TAG {
-        return Field::Bad;
-    }
-    let size = slices::pair(rest[1], rest[2]) as usize;
-    if rest.len() - FIELD_HEAD < size {
-        return Field::Bad;
-    }
-    Field::Name(size)
+    let [NAME_TAG, high, low, value @ ..] = rest else {
+        return None;
+    };
+    value.split_at_checked(usize::from(slices::pair(*high, *low)))
 }

@@ -10,7 +10,7 @@ ghost use Rattle.board.specs.Reading.{read_board, refused_with, updated};
 ghost use Rattle.board.specs.ReadingSteps.{task_of, task_of_items, read_update};
 
 use packet::{EOF_KIND, Found, Look, NAME_KIND, look_for, valid_name, value_at};
-use rows::{Board, Place, find, update};
+use rows::{Board, find, update};
 use value::{Value, read_value};
 
 // The opcode that the board reads.
@@ -112,7 +112,7 @@ fn read_update(board: Board, id: u16, packet: &[u8], name: Found, behind: Found)
 fn update_row(board: Board, id: u16, name: &[u8], value: i64) -> Reading
     ensures { result ≡ updated board id value (place_of name.now (row_names board)) }
 {
-    let Place::Row(row) = find(board, name) else {
+    let Some(row) = find(board, name) else {
         return refused(board, refusals::NOT_WATCHED);
     };
     Reading {

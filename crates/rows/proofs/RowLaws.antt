@@ -1,38 +1,20 @@
--- The laws that the loops over the rows cite: rows are changed one after the other, and a name is looked for row by row.
-use mathlib.Core.Path.{◌≡◌, refl, ap}
-use mathlib.Core.Bool.{true, false}
+-- The laws of the rows: one of them is stored anew, and a name is looked for row by row.
+use mathlib.Core.Path.{◌≡◌, refl, ap, ◌∙◌}
+use mathlib.Core.Bool.{Bool, true, false, cond}
 use mathlib.Core.List.{List, [], ◌∷◌, map}
-use mathlib.Core.Option.{some, none}
+use mathlib.Core.Option.{Option, some}
 use Prim.Native.Nat.{ℕ, zero, suc, ◌≤◌, ◌<◌}
 use native.Mathlib.Omega.{arith}
-use lib.ListN.{length, drop, get_or, set, drop_of_length-le}
-use lib.Seq.{drop-cons}
+use lib.ListN.{length, get_or, set}
 use Rattle.slices.specs.Same.{same_bytes}
 use Rattle.rows.specs.declared.Row.{Row}
 use Rattle.rows.specs.declared.State.TheVariants.{Never}
-use Rattle.rows.specs.Rows.{change_at}
-use Rattle.rows.specs.Names.{place_from}
-
--- the list with f done to the first elements
-unfoldable pub map_first : {A : Type 0} → (A → A) → ℕ → List A → List A
-map_first f zero l = l
-map_first f (suc i) [] = []
-map_first f (suc i) (x ∷ l) = f x ∷ map_first f i l
-
--- one element more
-pub map_step : {A : Type 0} (f : A → A) (l : List A) (i : ℕ) (d : A) → i < length l → set (map_first f i l) i (f (get_or (map_first f i l) i d)) ≡ map_first f (suc i) l
-unfolding map_first
-map_step f [] i d h = absurd (omega arith)
-map_step f (x ∷ l) zero d h = refl
-map_step f (x ∷ l) (suc i) d h = ap (λ r. f x ∷ r) (map_step f l i d (omega arith))
-
--- all of them
-pub map_all : {A : Type 0} (f : A → A) (l : List A) (i : ℕ) → length l ≤ i → map_first f i l ≡ map f l
-unfolding map_first
-map_all f [] zero h = refl
-map_all f [] (suc i) h = refl
-map_all f (x ∷ l) zero h = absurd (omega arith)
-map_all f (x ∷ l) (suc i) h = ap (λ r. f x ∷ r) (map_all f l i (omega arith))
+use Rattle.rows.specs.Rows.{row_name, change_at, as_place}
+use Rattle.rows.specs.Names.{place_from, place_of}
+use Rattle.std.specs.Prelude.{Some, position}
+use Rattle.std.specs.List.{position_from}
+use Rattle.std.proofs.lemmas.Iterator.Adapters.{position_from-zero}
+use native.Mathlib.Numerals.{add-one}
 
 -- where code reads past the last row it would see this
 abbrev pub no_row : Row
@@ -52,18 +34,20 @@ change_out f place [] h = refl
 change_out f zero (row ∷ rows) h = absurd (omega arith)
 change_out f (suc place) (row ∷ rows) h = ap (λ r. row ∷ r) (change_out f place rows (omega arith))
 
-module _ (name : List ℕ) (names : List (List ℕ)) (i : ℕ) where
-  -- the name stands here
-  pub place_here : i < length names → same_bytes (get_or names i []) name ≡ true → place_from i name (drop i names) ≡ some i
-  unfolding place_from
-  place_here h e = rw (drop-cons names i [] h, e)
+-- whether a row has the name
+abbrev pub named : List ℕ → Row → Bool
+named name row = same_bytes (row_name row) name
 
-  -- another name stands here: it is passed over
-  pub place_on : i < length names → same_bytes (get_or names i []) name ≡ false → place_from i name (drop i names) ≡ place_from (suc i) name (drop (suc i) names)
-  unfolding place_from
-  place_on h e = rw (drop-cons names i [] h, e)
+placed_from : (name : List ℕ) (rows : List Row) (at : ℕ) → position_from (named name) at rows ≡ as_place (place_from at name (map row_name rows))
+unfolding place_from
+placed_from name [] at = refl
+placed_from name (row ∷ rows) at =
+    rw (add-one, placed_from name rows (suc at)) (either (named name row) (place_from (suc at) name (map row_name rows)))
+  where
+    either : (t : Bool) (later : Option ℕ) → cond t (Some at) (as_place later) ≡ as_place (cond t (some at) later)
+    either true later = refl
+    either false later = refl
 
-  -- past the last name it was nowhere
-  pub place_ended : length names ≤ i → place_from i name (drop i names) ≡ none
-  unfolding place_from
-  place_ended h = rw (drop_of_length-le names h)
+-- the first row that has the name is where the name first stands
+pub placed : (name : List ℕ) (rows : List Row) → position (named name) rows ≡ as_place (place_of name (map row_name rows))
+placed name rows = position_from-zero (named name) rows ∙ placed_from name rows 0

@@ -1,14 +1,13 @@
 -- 01, The board: the rows, ticks and updates.
 use Rattle.std.specs.Prelude.{ℕ, zero, suc, ◌+◌, ◌-◌, cond, List, [], ◌∷◌, ◌++◌, map, ltb, ℤ, length, take, replicate}
+use Rattle.std.specs.Prelude.{Some, None}
+use Rattle.std.specs.declared.option.Option as rust
 use Rattle.std.proofs.Math.Option.{Option, some, none}
 use Rattle.slices.specs.Put.{put_at}
 use Rattle.rows.specs.declared.State.{State}
 use Rattle.rows.specs.declared.State.TheVariants.{Never, Current, Silent}
 use Rattle.rows.specs.declared.Row.{Row}
 use Rattle.rows.specs.declared.Board.{Board}
-use Rattle.rows.specs.declared.Place.{Place}
-use Rattle.rows.specs.declared.Place.TheVariants.{Nowhere}
-use Rattle.rows.specs.declared.Place.TheVariants as place
 use Rattle.rows.specs.Names.{used}
 
 -- 02, C-20: the board holds forty rows, in place of 01's sixteen
@@ -82,6 +81,6 @@ abbrev pub board_of : ℕ → List (List ℕ) → Board
 board_of count names = record { rows = map fresh_row (names ++ replicate (count - length names) []) }
 
 -- how the code answers a place
-abbrev pub as_place : Option ℕ → Place
-as_place (some row) = place.Row row
-as_place none = Nowhere
+abbrev pub as_place : Option ℕ → rust.Option ℕ
+as_place (some row) = Some row
+as_place none = None

@@ -35,24 +35,13 @@ pub struct Board {
     pub rows: [Row; ROWS],
 }
 
-// Where a row stands on the board.
-#[derive(Clone, Copy)]
-pub enum Place {
-    Row(usize),
-    Nowhere,
-}
-
 // The board after a tick: each current row is older by 1, or silent.
 pub fn tick(board: Board) -> Board
     ensures { result ≡ tick_board board }
 {
     let mut next = board;
-    let mut i: usize = 0;
-    while i < ROWS {
-        let row = next.rows[i];
-        let ticked = tick_row(row);
-        next.rows[i] = ticked;
-        i += 1;
+    for row in &mut next.rows {
+        *row = tick_row(*row);
     }
     next
 }
@@ -76,9 +65,10 @@ pub fn lent_tick(board: Board) -> Board
 fn tick_row(row: Row) -> Row
     ensures { result ≡ tick_row row }
 {
-    let state = row.state;
-    let ticked = tick_state(state);
-    with_state(row, ticked)
+    Row {
+        state: tick_state(row.state),
+        ..row
+    }
 }
 
 fn tick_state(state: State) -> State
@@ -100,39 +90,17 @@ fn tick_state(state: State) -> State
     }
 }
 
-// The row with another state, and all else as it was.
-fn with_state(row: Row, state: State) -> Row
-    ensures { result ≡ with_state state row }
-{
-    let name = row.name;
-    Row {
-        name,
-        length: row.length,
-        state,
-    }
-}
-
-// The first row that has the name; an unused row has the empty name.
-pub fn find(board: Board, name: &[u8]) -> Place
+// The place of the first row that has the name; an unused row has the empty name.
+pub fn find(board: Board, name: &[u8]) -> Option<usize>
     ensures { result ≡ as_place (place_of name.now (row_names board)) }
 {
-    let mut i: usize = 0;
-    while i < ROWS {
-        let row = board.rows[i];
-        if has_name(row, name) {
-            return Place::Row(i);
-        }
-        i += 1;
-    }
-    Place::Nowhere
+    board.rows.iter().position(|row| has_name(*row, name))
 }
 
 fn has_name(row: Row, name: &[u8]) -> bool
     ensures { result ≡ same_bytes (row_name row) name.now }
 {
-    let bytes = row.name;
-    let own = slices::first(&bytes, row.length);
-    slices::same(own, name)
+    slices::same(slices::first(&row.name, row.length), name)
 }
 
 // The board with the value in the row at `place`, which becomes current with age 0. A place that
@@ -142,10 +110,7 @@ pub fn update(board: Board, place: usize, value: i64) -> Board
 {
     let mut next = board;
     if place < ROWS {
-        let row = next.rows[place];
-        let state = State::Current { value, age: 0 };
-        let updated = with_state(row, state);
-        next.rows[place] = updated;
+        next.rows[place].state = State::Current { value, age: 0 };
     }
     next
 }
@@ -178,7 +143,7 @@ pub fn fresh_row(name: &[u8]) -> Row
 pub fn fresh() -> Board
     ensures { result ≡ board_of row_count [] }
 {
-    let unused = fresh_row(b"");
-    let rows = [unused; ROWS];
-    Board { rows }
+    Board {
+        rows: [fresh_row(b""); ROWS],
+    }
 }

@@ -1,13 +1,9 @@
 -- `rows::tick` meets its contract. The invariant: the rows before the present one are ticked, the others are as they
 -- were.
-use mathlib.Core.Path.{◌≡◌}
-use Prim.Native.Nat.{◌-◌, ◌≤◌}
-use Rattle.rows.specs.Rows.{row_count, tick_row}
-use Rattle.rows.proofs.RowLaws.{map_first}
+use Rattle.std.proofs.Common.{◌≡◌, ◌++◌, take, drop}
+use Rattle.std.specs.Prelude.{map}
+use Rattle.rows.specs.Rows.{tick_row}
 use Rattle.rows.proofs.tick.Given as goal
 
-abbrev pub invariant-loop-i : goal.invariant-loop-i
-invariant-loop-i l = (l.i ≤ row_count) × (l.next ≡ record { rows = map_first tick_row l.i l.initial.next.rows })
-
-abbrev pub decreases-loop-i : goal.decreases-loop-i
-decreases-loop-i l = row_count - l.i
+abbrev pub invariant-loop-row : goal.invariant-loop-row
+invariant-loop-row l = l.row-items ≡ map tick_row (take l.row-index l.initial.row-items) ++ drop l.row-index l.initial.row-items

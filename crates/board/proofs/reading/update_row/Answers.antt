@@ -1,5 +1,5 @@
 -- `board::reading::update_row` meets its contract: the row that was found is the one that has the name.
-use mathlib.Core.Path.{◌≡◌, sym, ◌∙◌}
+use mathlib.Core.Path.{◌≡◌}
 use mir.Syntax.{w64}
 use mir.Val.{to_z, of_z}
 use mir.Facts.{to_z-of_z}
@@ -13,11 +13,11 @@ pub returns-in_default : goal.returns-in_default
 unfolding updated
 returns-in_default c =
     let place = place_of c.args.name.now (row_names c.args.board) in
-    rw (c.refused.ensures, place_nowhere place (sym c.find.ensures ∙ c.in_default.is))
+    rw (c.refused.ensures, place_nowhere place c.in_default.ensures)
 
 pub returns : goal.returns
 unfolding updated
 returns c =
     let place = place_of c.args.name.now (row_names c.args.board) in
     let back : to_z w64 (of_z w64 c.args.value) ≡ c.args.value = to_z-of_z c.ranges.value in
-    rw (c.update.ensures, back, place_row place c.in-Row.row (sym c.find.ensures ∙ c.in-Row.is))
+    rw (c.update.ensures, back, place_row place c.in-Some.row c.in-Some.ensures)

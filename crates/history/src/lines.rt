@@ -28,14 +28,12 @@ pub fn reply(out: &mut [u8], bytes: &[u8]) -> usize
 pub fn row(out: &mut [u8], row: Row) -> usize
     ensures { Appends (row_line row) out.old 0 out.new result }
 {
-    let bytes = row.name;
-    let name = slices::first(&bytes, row.length);
-    if name.len() == 0 {
+    let name = row.name.as_slice();
+    if name.is_empty() {
         return 0;
     }
     let place = append(out, 0, name);
-    let shown = row.state;
-    state(out, place, shown)
+    state(out, place, row.state)
 }
 
 fn state(out: &mut [u8], at: usize, state: State) -> usize

@@ -18,7 +18,7 @@ use native.Mathlib.Numerals.{add-one}
 
 -- where code reads past the last row it would see this
 abbrev pub no_row : Row
-no_row = record { name = []; length = 0; state = Never }
+no_row = record { name = record { length = 0; bytes = [] }; state = Never }
 
 -- the row at place is stored anew
 pub change_set : (f : Row → Row) (place : ℕ) (rows : List Row) → place < length rows → change_at f place rows ≡ set rows place (f (get_or rows place no_row))

@@ -1,9 +1,9 @@
 -- 01, The board: the rows, ticks and updates.
-use Rattle.std.specs.Prelude.{ℕ, zero, suc, ◌+◌, ◌-◌, cond, List, [], ◌∷◌, ◌++◌, map, ltb, ℤ, length, take, replicate}
+use Rattle.std.specs.Prelude.{ℕ, zero, suc, ◌+◌, ◌-◌, cond, List, [], ◌∷◌, ◌++◌, map, ltb, ℤ, length, replicate}
 use Rattle.std.specs.Prelude.{Some, None}
 use Rattle.std.specs.declared.option.Option as rust
 use Rattle.std.proofs.Math.Option.{Option, some, none}
-use Rattle.slices.specs.Put.{put_at}
+use Rattle.slices.specs.FixedBytes.{fixed_of, shown}
 use Rattle.rows.specs.declared.State.{State}
 use Rattle.rows.specs.declared.State.TheVariants.{Never, Current, Silent}
 use Rattle.rows.specs.declared.Row.{Row}
@@ -24,7 +24,7 @@ silent_age = 30
 
 -- the name of a row: as many of its name bytes as its length says
 abbrev pub row_name : Row → List ℕ
-row_name row = take row.length row.name
+row_name row = shown row.name
 
 -- the names of all rows, that of an unused row is empty
 abbrev pub row_names : Board → List (List ℕ)
@@ -36,7 +36,7 @@ watched board = used (row_names board)
 
 -- the row with another state
 abbrev pub with_state : State → Row → Row
-with_state state row = record { name = row.name; length = row.length; state = state }
+with_state state row = record { name = row.name; state = state }
 
 -- 01, The board: a tick adds 1 to each current age; at 30 the row is silent and shows no value
 abbrev pub tick_state : State → State
@@ -60,7 +60,7 @@ update_row value row = with_state (Current value 0) row
 
 -- a row that has had no update. Behind the name its bytes are 0.
 abbrev pub fresh_row : List ℕ → Row
-fresh_row name = record { name = put_at (replicate name_room 0) 0 name; length = length name; state = Never }
+fresh_row name = record { name = fixed_of name_room name; state = Never }
 
 -- the rows with f done to the one at place
 unfoldable pub change_at : (Row → Row) → ℕ → List Row → List Row

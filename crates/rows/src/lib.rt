@@ -5,6 +5,8 @@ ghost use Rattle.slices.specs.Same.{same_bytes};
 ghost use Rattle.rows.specs.Names.{place_of};
 ghost use Rattle.rows.specs.Rows.{row_count, row_name, row_names, tick_state, tick_row, tick_board, with_state, fresh_row, board_of, update_board, put_row, as_place};
 
+use slices::FixedBytes;
+
 // How many rows the board has, and so how many names it can watch.
 pub const ROWS: usize = 40;
 
@@ -22,11 +24,10 @@ pub enum State {
     Silent,
 }
 
-// A row. Its name is the first `length` of its name bytes; an unused row has the length 0.
+// A row. An unused row has the empty name.
 #[derive(Clone, Copy)]
 pub struct Row {
-    pub name: [u8; NAME_ROOM],
-    pub length: usize,
+    pub name: FixedBytes<NAME_ROOM>,
     pub state: State,
 }
 
@@ -100,7 +101,7 @@ pub fn find(board: Board, name: &[u8]) -> Option<usize>
 fn has_name(row: Row, name: &[u8]) -> bool
     ensures { result ≡ same_bytes (row_name row) name.now }
 {
-    slices::same(slices::first(&row.name, row.length), name)
+    slices::same(row.name.as_slice(), name)
 }
 
 // The board with the value in the row at `place`, which becomes current with age 0. A place that
@@ -130,11 +131,8 @@ pub fn put_row(board: Board, place: usize, row: Row) -> Board
 pub fn fresh_row(name: &[u8]) -> Row
     ensures { result ≡ fresh_row name.now }
 {
-    let mut bytes = [0u8; NAME_ROOM];
-    slices::put(&mut bytes, 0, name);
     Row {
-        name: bytes,
-        length: name.len(),
+        name: FixedBytes::of(name),
         state: State::Never,
     }
 }

@@ -1,48 +1,34 @@
 -- The laws of the board's reading, one for each way through the code: what the tests on the way say of the packet settles the
 -- verdict.
-use mathlib.Core.Path.{◌≡◌, refl, ap}
+use mathlib.Core.Path.{◌≡◌, refl, sym, ap, ◌∙◌}
 use mathlib.Core.Bool.{Bool, true, false, cond, ◌&&◌}
 use mathlib.Core.List.{List}
 use mathlib.Core.Option.{Option, some, none}
-use Prim.Native.Nat.{ℕ, ◌≤◌, ◌<◌}
+use Prim.Native.Nat.{ℕ}
 use lib.Dec.{eqb, ltb}
 use lib.IntN.{ℤ}
-use borrow.Author.Tests.{ne_eqb, lt-ltb, le-ltb}
+use Rattle.std.specs.Prelude.{Some, None}
+use Rattle.value.specs.Value.{value_of, as_value}
+use Rattle.value.proofs.ValueLaws.{value_number, value_bad}
+use Rattle.board.specs.declared.reading.Reading.{Reading}
 use Rattle.refusals.specs.Numbers.{other_opcode, bad_name, bad_value, not_watched}
 use Rattle.packet.specs.ItemTypes.{name_kind, eof_kind}
 use Rattle.packet.specs.Names.{between, valid_name}
 use Rattle.packet.specs.Items.{Item, count_of, first_of, value_bytes, behind_of}
 use Rattle.packet.specs.Packet.{Judged, packet_of, judged_items, packet_items}
 use Rattle.packet.specs.Packet as judged
-use Rattle.packet.specs.Answers.{reading_of, item_at, look_of}
+use Rattle.packet.specs.Answers.{Found, reading_of, item_at, look_of}
+use Rattle.packet.specs.declared.items.Item as code
 use Rattle.packet.specs.declared.reading.Look.{Look}
 use Rattle.packet.proofs.FoundLaws.{find_reads, behind_found_reads}
 use Rattle.rows.specs.Names.{place_of, is_some, is_in}
 use Rattle.rows.specs.Rows.{row_names, watched}
 use Rattle.rows.specs.declared.Board.{Board}
 use Rattle.rows.proofs.NameLaws.{in_used}
-use Rattle.board.specs.Reading.{update_opcode, Verdict, refused, end_mark, update, value_of_item, with_value, with_name, update_of, verdict_of_items, verdict_of, if_watched, updated, applied, refused_with}
+use Rattle.board.specs.Reading.{update_opcode, refused, end_mark, update, value_of_item, with_value, with_name, update_of, verdict_of_items, verdict_of, if_watched, updated, applied, refused_with}
 use Rattle.board.specs.ReadingSteps.{task_of_items, task_by, task_of, verdict_by, read_update}
 use Rattle.board.specs.declared.reading.Task.TheVariants.{Reject, Finish, Apply}
 use Rattle.board.proofs.NameLaws.{valid_fit}
-
--- how many Names a look found
-module _ (id : ℕ) (names : Look) (ends : ℕ) where
-  pub task_one : names.count ≡ 1 → task_of_items id names ends ≡ Apply id names.first names.behind
-  unfolding task_of_items
-  task_one one = rw one
-
-  pub task_end : names.count ≡ 0 → 0 < ends → task_of_items id names ends ≡ Finish id
-  unfolding task_of_items
-  task_end nameless ended = rw (nameless, lt-ltb 0 ends ended)
-
-  pub task_none : names.count ≡ 0 → ends ≤ 0 → task_of_items id names ends ≡ Reject bad_name
-  unfolding task_of_items
-  task_none nameless endless = rw (nameless, le-ltb 0 ends endless)
-
-  pub task_many : (names.count ≡ 1 → ⊥) → (names.count ≡ 0 → ⊥) → task_of_items id names ends ≡ Reject bad_name
-  unfolding task_of_items
-  task_many not-one not_None = rw (ne_eqb names.count 0 not_None, ne_eqb names.count 1 not-one)
 
 -- a look that found the Names of the items
 record Finds (bytes : List ℕ) (names : Look) (items : List Item) : Type 0 where
@@ -63,7 +49,7 @@ module _ (bytes : List ℕ) (names : Look) where
       cases false false = refl
 
   judged_by_task : (j : Judged) → Finds bytes names (judged_items j) → verdict_of j ≡ verdict_by bytes (task_by (reading_of j) names (count_of eof_kind (judged_items j)))
-  unfolding verdict_of reading_of task_by judged_items
+  unfolding verdict_of reading_of judged_items
   judged_by_task (judged.refused number) found = refl
   judged_by_task (judged.packet p) found = cases (eqb p.opcode update_opcode)
     where
@@ -72,7 +58,7 @@ module _ (bytes : List ℕ) (names : Look) where
       cases false = refl
 
 pub by_task : (bytes : List ℕ) → verdict_of (packet_of bytes) ≡ verdict_by bytes (task_of bytes)
-unfolding task_of packet_items
+unfolding packet_items
 by_task bytes =
     judged_by_task bytes (look_of name_kind bytes) (packet_of bytes)
     (record { number = refl; name = (find_reads bytes name_kind).same; value = (behind_found_reads bytes name_kind).same })
@@ -83,29 +69,51 @@ unfolding with_name value_bytes valid_name between
 by_name id none value = refl
 by_name id (some item) value = refl
 
-module _ (board : Board) (id : ℕ) (name behind : Option Item) where
-  -- the Name settles the verdict by its bytes
-  named : read_update board id name behind ≡ applied board (if_watched (watched board) (cond (valid_name (value_bytes name)) (with_value id (value_bytes name) (value_of_item behind)) (refused bad_name)))
-  unfolding read_update
-  named = ap (λ (verdict : Verdict). applied board (if_watched (watched board) verdict)) (by_name id name (value_of_item behind))
+module _ (board : Board) (id : ℕ) (packet : List ℕ) (name behind : Found) where
+  abbrev item : Found → Option Item
+  item found = item_at packet found
 
-  pub update_bad_name : valid_name (value_bytes name) ≡ false → read_update board id name behind ≡ refused_with board bad_name
-  unfolding if_watched applied
-  update_bad_name bad = rw (named, bad)
+  abbrev answer : Reading
+  answer = read_update board id (item name) (item behind)
 
-  module _ (valid : valid_name (value_bytes name) ≡ true) where
-    pub update_bad_value : value_of_item behind ≡ none → read_update board id name behind ≡ refused_with board bad_value
-    unfolding with_value if_watched applied
-    update_bad_value bad = rw (named, valid, bad)
+  -- the Name's bytes, and by them the verdict
+  module _ {bytes : List ℕ} (there : bytes ≡ value_bytes (item name)) where
+    named : answer ≡ applied board (if_watched (watched board) (cond (valid_name bytes) (with_value id bytes (value_of_item (item behind))) (refused bad_name)))
+    unfolding read_update
+    named = rw (there, by_name id (item name) (value_of_item (item behind)))
 
-    -- no unused row has a valid name
-    in_rows : is_in (value_bytes name) (watched board) ≡ is_in (value_bytes name) (row_names board)
-    in_rows = in_used (value_bytes name) (row_names board) (valid_fit (value_bytes name) valid).some
+    pub update_bad_name : false ≡ valid_name bytes → refused_with board bad_name ≡ answer
+    unfolding if_watched applied
+    update_bad_name bad = rw (named, ← bad)
 
-    pub update_value : {value : ℤ} → value_of_item behind ≡ some value → read_update board id name behind ≡ updated board id value (place_of (value_bytes name) (row_names board))
-    unfolding with_value if_watched applied updated
-    update_value {value} good = rw (named, valid, good, in_rows) (cases (place_of (value_bytes name) (row_names board)) refl)
-      where
-        cases : (o : Option ℕ) → place_of (value_bytes name) (row_names board) ≡ o → applied board (cond (is_some o) (update id (value_bytes name) value) (refused not_watched)) ≡ updated board id value o
-        cases (some row) e = ap (updated board id value) e
-        cases none e = refl
+    module _ (valid : true ≡ valid_name bytes) where
+      no_value : value_of_item (item behind) ≡ none → refused_with board bad_value ≡ answer
+      unfolding with_value if_watched applied
+      no_value bad = rw (named, ← valid, bad)
+
+      -- nothing behind the Name
+      pub update_ends : behind ≡ None → refused_with board bad_value ≡ answer
+      unfolding item_at value_of_item
+      update_ends nothing = no_value (rw nothing)
+
+      -- the item behind it, with the bytes of its value
+      module _ {found : code.Item} {value_there : List ℕ} (is : behind ≡ Some found) (at : value_there ≡ value_bytes (item (Some found))) where
+        value_is : value_of_item (item behind) ≡ value_of found.kind value_there
+        unfolding item_at value_of_item value_bytes
+        value_is = rw (at, is)
+
+        pub update_bad_value : None ≡ as_value (value_of found.kind value_there) → refused_with board bad_value ≡ answer
+        update_bad_value bad = no_value (value_is ∙ value_bad _ (sym bad))
+
+        -- no unused row has a valid name
+        in_rows : is_in bytes (watched board) ≡ is_in bytes (row_names board)
+        in_rows = in_used bytes (row_names board) (valid_fit bytes (sym valid)).some
+
+        pub update_value : {value : ℤ} → Some value ≡ as_value (value_of found.kind value_there) → updated board id value (place_of bytes (row_names board)) ≡ answer
+        unfolding with_value if_watched applied updated
+        update_value {value} good =
+            rw (named, ← valid, value_is, value_number _ value (sym good), in_rows) (cases (place_of bytes (row_names board)) refl)
+          where
+            cases : (o : Option ℕ) → place_of bytes (row_names board) ≡ o → updated board id value o ≡ applied board (cond (is_some o) (update id bytes value) (refused not_watched))
+            cases (some row) e = sym (ap (updated board id value) e)
+            cases none e = refl

@@ -25,11 +25,11 @@ task_of_items id names ends =
     (cond (eqb names.count 1) (Apply id names.first names.behind) (Reject bad_name))
 
 -- the same after the packet reader's answer
-unfoldable pub task_by : packet_reading.Reading → Look → ℕ → Task
+abbrev pub task_by : packet_reading.Reading → Look → ℕ → Task
 task_by (Refused number) names ends = Reject number
 task_by (Packet opcode id) names ends = cond (eqb opcode update_opcode) (task_of_items id names ends) (Reject other_opcode)
 
-unfoldable pub task_of : List ℕ → Task
+abbrev pub task_of : List ℕ → Task
 task_of bytes = task_by (look_of name_kind bytes).reading (look_of name_kind bytes) (count_of eof_kind (packet_items bytes))
 
 -- the verdict on an update with this Name and this item behind it

@@ -9,9 +9,9 @@ ghost use Rattle.rows.specs.Rows.{row_names};
 ghost use Rattle.board.specs.Reading.{read_board, refused_with, updated};
 ghost use Rattle.board.specs.ReadingSteps.{task_of, task_of_items, read_update};
 
-use packet::{EOF_KIND, Found, Look, NAME_KIND, look_for, valid_name, value_at};
+use packet::{EOF_KIND, Item, Look, NAME_KIND, look_for, valid_name, value_at};
 use rows::{Board, find, update};
-use value::{Value, read_value};
+use value::read_value;
 
 // The opcode that the board reads.
 const UPDATE: u8 = 0x03;
@@ -36,8 +36,14 @@ pub struct Reading {
 #[derive(Clone, Copy)]
 enum Task {
     Reject(u8),
-    Finish { id: u16 },
-    Apply { id: u16, name: Found, behind: Found },
+    Finish {
+        id: u16,
+    },
+    Apply {
+        id: u16,
+        name: Option<Item>,
+        behind: Option<Item>,
+    },
 }
 
 // The board after a packet. A refused packet and an end mark leave it as it was.
@@ -55,12 +61,12 @@ pub fn read(board: Board, packet: &[u8]) -> Reading
 }
 
 // Tests the packet, its opcode and how many Names it has. One look answers all three.
+#[tactic(auto, unfolding(crate::specs::ReadingSteps::task_of_items))]
 fn judge(packet: &[u8]) -> Task
     ensures { result ≡ task_of packet.now }
 {
     let names = look_for(packet, NAME_KIND);
-    let reading = names.reading;
-    match reading {
+    match names.reading {
         packet::Reading::Refused(number) => Task::Reject(number),
         packet::Reading::Packet { opcode, id } => {
             if opcode == UPDATE {
@@ -74,13 +80,16 @@ fn judge(packet: &[u8]) -> Task
 
 // What a packet asks by the Names that a look found in it. Only without a Name is there a second
 // look, for an EOF item.
+#[tactic(auto, unfolding(crate::specs::ReadingSteps::task_of_items))]
 fn judge_items(id: u16, packet: &[u8], names: Look) -> Task
     ensures { result ≡ task_of_items id names (count_of eof_kind (packet_items packet.now)) }
 {
     if names.count == 1 {
-        let name = names.first;
-        let behind = names.behind;
-        return Task::Apply { id, name, behind };
+        return Task::Apply {
+            id,
+            name: names.first,
+            behind: names.behind,
+        };
     }
     if names.count == 0 {
         let ends = look_for(packet, EOF_KIND);
@@ -92,23 +101,30 @@ fn judge_items(id: u16, packet: &[u8], names: Look) -> Task
 }
 
 // Reads the Name, then the value item right behind it, then the row.
-fn read_update(board: Board, id: u16, packet: &[u8], name: Found, behind: Found) -> Reading
+fn read_update(
+    board: Board,
+    id: u16,
+    packet: &[u8],
+    name: Option<Item>,
+    behind: Option<Item>,
+) -> Reading
     ensures { result ≡ read_update board id (item_at packet.now name) (item_at packet.now behind) }
 {
     let name_bytes = value_at(packet, name);
     if !valid_name(name_bytes) {
         return refused(board, refusals::BAD_NAME);
     }
-    let Found::At { kind, .. } = behind else {
+    let Some(item) = behind else {
         return refused(board, refusals::BAD_VALUE); // nothing behind the Name
     };
-    let Value::Number(value) = read_value(kind, value_at(packet, behind)) else {
+    let Some(value) = read_value(item.kind, value_at(packet, behind)) else {
         return refused(board, refusals::BAD_VALUE);
     };
     update_row(board, id, name_bytes, value)
 }
 
 // The row that has the name becomes current with the value.
+#[tactic(auto, unfolding(crate::specs::Reading::updated))]
 fn update_row(board: Board, id: u16, name: &[u8], value: i64) -> Reading
     ensures { result ≡ updated board id value (place_of name.now (row_names board)) }
 {

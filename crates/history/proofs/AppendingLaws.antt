@@ -2,7 +2,7 @@
 -- nothing is put.
 use mathlib.Core.Path.{◌≡◌, refl, sym, subst, ◌∙◌}
 use mathlib.Core.Bool.{Bool, true, false}
-use mathlib.Core.List.{List, ◌++◌, append_assoc}
+use mathlib.Core.List.{List, ◌++◌}
 use Prim.Native.Nat.{ℕ, ◌+◌, ◌≤◌, ◌<◌, min}
 use native.Mathlib.Omega.{arith}
 use lib.Dec.{leb}
@@ -44,14 +44,3 @@ appends_length {xs} {d} {d₁} {at} {place} a = rw a.puts (length_put d at xs)
 -- the same text
 pub appends_same : {xs ys d d₁ : List ℕ} {at place : ℕ} → xs ≡ ys → Appends xs d at d₁ place → Appends ys d at d₁ place
 appends_same {xs} {ys} {d} {d₁} {at} {place} e a = subst (λ (text : List ℕ). Appends text d at d₁ place) e a
-
--- What is still to be appended in a loop: whoever appends the text that is left, and whatever comes behind it, has appended
--- the whole text and that.
-pub record Coming (whole d₀ : List ℕ) (at₀ : ℕ) (left d : List ℕ) (at : ℕ) : Type 0 where
-  pub then : (rest after : List ℕ) (end : ℕ) → Appends (left ++ rest) d at after end → Appends (whole ++ rest) d₀ at₀ after end
-
--- a part is appended, and the text behind it is left
-pub coming_next : {whole d₀ d d₁ : List ℕ} {at₀ at place : ℕ} (part left : List ℕ)
-    → Coming whole d₀ at₀ (part ++ left) d at → Appends part d at d₁ place → Coming whole d₀ at₀ left d₁ place
-coming_next part left coming a =
-    record { then = λ rest after end b. coming.then rest after end (rw (append_assoc part left rest) (appends_both a b)) }

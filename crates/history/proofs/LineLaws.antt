@@ -1,42 +1,33 @@
--- A line that goes through a list: each turn appends an element's text, and the texts of the elements behind it are left.
-use mathlib.Core.Path.{◌≡◌, refl, subst, ◌∙◌}
-use mathlib.Core.List.{List, ◌++◌}
+-- A line that goes through a list: a word, then each turn appends an element's text, and at last the line's end.
+use mathlib.Core.Path.{◌≡◌, sym, ap, ◌∙◌}
+use mathlib.Core.List.{List, [], ◌∷◌, ◌++◌, append_assoc, append-nil}
 use Prim.Native.Nat.{ℕ, ◌+◌, ◌≤◌, ◌<◌}
-use native.Mathlib.Omega.{arith}
-use lib.ListN.{length, drop, get_or}
+use lib.ListN.{length, take, get_or}
+use lib.Seq.{take_all}
+use Rattle.std.proofs.lemmas.List.{take_more}
 use Rattle.slices.specs.Each.{each}
-use Rattle.slices.proofs.EachLaws.{each_from, each_none}
+use Rattle.slices.proofs.EachLaws.{each_append}
 use Rattle.history.specs.Appending.{Appends}
 use Rattle.history.specs.Lines.{line_end}
-use Rattle.history.proofs.AppendingLaws.{Coming, coming_next, appends_both, appends_length}
+use Rattle.history.proofs.AppendingLaws.{appends_both, appends_same}
 
--- the texts from the element i on are left; at first that is all of them
-pub record Going (text : ℕ → List ℕ) (list d₀ : List ℕ) (at₀ i : ℕ) (d : List ℕ) (at : ℕ) : Type 0 where
-  pub within : i ≤ length list
-  pub size : length d ≡ length d₀
-  pub coming : Coming (each text list) d₀ at₀ (each text (drop i list)) d at
+-- the word and the texts of the first i elements stand in the buffer
+module _ (text : ℕ → List ℕ) (word list before : List ℕ) where
+  abbrev pub Line : ℕ → List ℕ → ℕ → Type 0
+  Line i after place = Appends (word ++ each text (take i list)) before 0 after place
 
-pub goes : {text : ℕ → List ℕ} {list d : List ℕ} {at : ℕ} → Going text list d at 0 d at
-goes = record { within = omega arith; size = refl; coming = record { then = λ rest after end a. a } }
+  pub line_begins : {after : List ℕ} {place : ℕ} → Appends word before 0 after place → Line 0 after place
+  unfolding each
+  line_begins first = appends_same (sym (append-nil word)) first
 
-module _ {text : ℕ → List ℕ} {list d₀ d d₁ : List ℕ} {at₀ i at place : ℕ} (so_far : Going text list d₀ at₀ i d at) where
-  -- the next one is appended
-  pub goes_on : i < length list → Appends (text (get_or list i 0)) d at d₁ place → Going text list d₀ at₀ (i + 1) d₁ place
-  goes_on h a =
-      let split = each_from text list i h in
-      let left = subst (λ (t : List ℕ). Coming (each text list) d₀ at₀ t d at) split so_far.coming in
-      record {
-        within = omega arith;
-        size = appends_length a ∙ so_far.size;
-        coming = coming_next (text (get_or list i 0)) (each text (drop (i + 1) list)) left a;
-      }
+  module _ {after next : List ℕ} {i place end : ℕ} (so_far : Line i after place) where
+    pub line_goes_on : i < length list → Appends (text (get_or list i 0)) after place next end → Line (i + 1) next end
+    unfolding each
+    line_goes_on h one =
+        let last = text (get_or list i 0) in
+        let more : each text (take (i + 1) list) ≡ each text (take i list) ++ last =
+        rw (take_more list i 0 h, each_append text (take i list) (get_or list i 0 ∷ []), append-nil last) in
+        appends_same (append_assoc word (each text (take i list)) last ∙ ap (λ (texts : List ℕ). word ++ texts) (sym more)) (appends_both so_far one)
 
-  -- none is left: behind the word that came before them all stand the texts and the line's end
-  pub line_ends : {word before : List ℕ} {start : ℕ} → length list ≤ i → Appends word before start d₀ at₀ → Appends line_end d at d₁ place
-      → Appends (word ++ (each text list ++ line_end)) before start d₁ place
-  line_ends h first last =
-      let left = subst (λ (t : List ℕ). Coming (each text list) d₀ at₀ t d at) (each_none text list i h) so_far.coming in
-      appends_both first (left.then line_end d₁ place last)
-
-  pub line_keeps : {word before : List ℕ} {start : ℕ} → Appends word before start d₀ at₀ → Appends line_end d at d₁ place → length d₁ ≡ length before
-  line_keeps first last = appends_length last ∙ so_far.size ∙ appends_length first
+    pub line_ends : length list ≤ i → Appends line_end after place next end → Appends (word ++ (each text list ++ line_end)) before 0 next end
+    line_ends h last = rw (take_all i list h) at (appends_same (append_assoc word (each text (take i list)) line_end) (appends_both so_far last))

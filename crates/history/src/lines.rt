@@ -16,10 +16,8 @@ pub fn reply(out: &mut [u8], bytes: &[u8]) -> usize
     ensures { Appends (reply_line bytes.now) out.old 0 out.new result }
 {
     let mut place = append(out, 0, b"reply ");
-    let mut i: usize = 0;
-    while i < bytes.len() {
-        place = hex(out, place, bytes[i]);
-        i += 1;
+    for byte in bytes {
+        place = hex(out, place, *byte);
     }
     append(out, place, b"\n")
 }
@@ -45,7 +43,7 @@ fn state(out: &mut [u8], at: usize, state: State) -> usize
         State::Current { value, age } => {
             let first = append(out, at, b" current ");
             let second = signed(out, first, value);
-            let third = labelled(out, second, b" ", age as u64);
+            let third = labelled(out, second, b" ", u64::from(age));
             append(out, third, b"\n")
         }
     }
@@ -63,10 +61,10 @@ fn labelled(out: &mut [u8], at: usize, label: &[u8], number: u64) -> usize
 pub fn counts(out: &mut [u8], counts: Counts) -> usize
     ensures { Appends (counts_line counts) out.old 0 out.new result }
 {
-    let first = labelled(out, 0, b"new ", counts.new as u64);
-    let second = labelled(out, first, b" again ", counts.again as u64);
-    let third = labelled(out, second, b" heard ", counts.heard as u64);
-    let fourth = labelled(out, third, b" unread ", counts.unread as u64);
+    let first = labelled(out, 0, b"new ", u64::from(counts.new));
+    let second = labelled(out, first, b" again ", u64::from(counts.again));
+    let third = labelled(out, second, b" heard ", u64::from(counts.heard));
+    let fourth = labelled(out, third, b" unread ", u64::from(counts.unread));
     append(out, fourth, b"\n")
 }
 
@@ -75,11 +73,8 @@ pub fn refused(out: &mut [u8], counts: &[u16]) -> usize
     ensures { Appends (refused_line counts.now) out.old 0 out.new result }
 {
     let mut place = append(out, 0, b"refused");
-    let mut i: usize = 0;
-    while i < counts.len() {
-        let count = counts[i];
-        place = labelled(out, place, b" ", count as u64);
-        i += 1;
+    for count in counts {
+        place = labelled(out, place, b" ", u64::from(*count));
     }
     append(out, place, b"\n")
 }

@@ -12,8 +12,6 @@ const TEN: u8 = 97 - 10;
 // Enough for a number of 64 bits in decimal.
 const DIGITS_MAX: usize = 20;
 
-const LAST_DIGIT: usize = DIGITS_MAX - 1;
-
 // Appends `text` from the place `at` on, and answers the place behind it.
 pub fn append(out: &mut [u8], at: usize, text: &[u8]) -> usize
     ensures { Appends text.now out.old at out.new result }
@@ -26,28 +24,24 @@ pub fn append(out: &mut [u8], at: usize, text: &[u8]) -> usize
 fn behind(size: usize, at: usize, count: usize) -> usize
     ensures { result ≡ min (at + count) size }
 {
-    if size < at {
-        return size;
-    }
-    let room = size - at;
-    if count < room { at + count } else { size }
+    at.saturating_add(count).min(size)
 }
 
-// Appends the number in decimal.
+// Appends the number in decimal: the last digit is made first, until nothing of the number is left.
 pub fn decimal(out: &mut [u8], at: usize, number: u64) -> usize
     ensures { Appends (decimal_of number) out.old at out.new result }
 {
     let mut digits = [0u8; DIGITS_MAX];
-    let mut left: usize = LAST_DIGIT;
     let mut rest = number;
-    while 10 <= rest {
+    for left in (0..DIGITS_MAX).rev() {
         let last = rest % 10;
         digits[left] = ZERO + last as u8;
         rest /= 10;
-        left -= 1;
+        if rest == 0 {
+            return append(out, at, &digits[left..]);
+        }
     }
-    digits[left] = ZERO + rest as u8;
-    append(out, at, &digits[left..])
+    append(out, at, &digits)
 }
 
 // Appends the number in decimal, a minus sign before a negative one.
@@ -68,8 +62,7 @@ pub fn hex(out: &mut [u8], at: usize, byte: u8) -> usize
 {
     let high = hex_digit(byte / 16);
     let low = hex_digit(byte % 16);
-    let pair = [high, low];
-    append(out, at, &pair)
+    append(out, at, &[high, low])
 }
 
 fn hex_digit(value: u8) -> u8
@@ -77,7 +70,8 @@ fn hex_digit(value: u8) -> u8
     ensures { result ≡ hex_digit value }
 {
     if value < 10 {
-        return ZERO + value;
+        ZERO + value
+    } else {
+        TEN + value
     }
-    TEN + value
 }

@@ -4,8 +4,9 @@ use Rattle.history.proofs.lines.counts.Goals as goal
 
 pub returns : goal.returns
 returns c =
-    appends_both
+    rw (← c.from.ensures, ← c.from-2.ensures, ← c.from-3.ensures, ← c.from-4.ensures)
+    (appends_both
     (appends_both
     (appends_both (appends_both c.labelled-first.ensures c.labelled-second.ensures) c.labelled-third.ensures)
     c.labelled-fourth.ensures)
-    c.append.ensures
+    c.append.ensures)

@@ -1,14 +1,14 @@
-use Rattle.history.proofs.LineLaws.{goes, goes_on, line_ends, line_keeps}
+use Rattle.history.specs.Lines.{reply_word}
+use Rattle.history.specs.Numbers.{hex_byte}
+use Rattle.history.proofs.LineLaws.{line_begins, line_goes_on, line_ends}
 use Rattle.history.proofs.lines.reply.Goals as goal
 
-pub loop-i-init : goal.loop-i-init
-loop-i-init c = goes
+pub loop-byte-init : goal.loop-byte-init
+loop-byte-init c = line_begins hex_byte reply_word c.args.bytes.now c.args.out.now c.append-place.ensures
 
-pub loop-i-preserved : goal.loop-i-preserved
-loop-i-preserved c = goes_on c.loop-i.invariant c.loop-i-test.true c.hex-place.ensures
-
-pub shape_of-out : goal.shape_of-out
-shape_of-out c = line_keeps c.loop-i.invariant c.append-place.ensures c.append.ensures
+pub loop-byte-preserved : goal.loop-byte-preserved
+loop-byte-preserved c =
+    line_goes_on hex_byte reply_word c.args.bytes.now c.args.out.now c.loop-byte.invariant c.loop-byte-test.true c.hex-place.ensures
 
 pub returns : goal.returns
-returns c = line_ends c.loop-i.invariant c.loop-i-test.false c.append-place.ensures c.append.ensures
+returns c = line_ends hex_byte reply_word c.args.bytes.now c.args.out.now c.loop-byte.invariant c.loop-byte-test.false c.append.ensures

@@ -1,12 +1,8 @@
--- `history::lines::reply` meets its contract: each turn appends a byte in hex, and the bytes behind it are left.
-use Prim.Native.Nat.{◌-◌}
-use lib.ListN.{length}
+-- `history::lines::reply` meets its contract: each turn appends a byte in hex.
+use Rattle.history.specs.Lines.{reply_word}
 use Rattle.history.specs.Numbers.{hex_byte}
-use Rattle.history.proofs.LineLaws.{Going}
+use Rattle.history.proofs.LineLaws.{Line}
 use Rattle.history.proofs.lines.reply.Given as goal
 
-abbrev pub invariant-loop-i : goal.invariant-loop-i
-invariant-loop-i l = Going hex_byte l.bytes l.initial.out l.initial.place l.i l.out l.place
-
-abbrev pub decreases-loop-i : goal.decreases-loop-i
-decreases-loop-i l = length l.bytes - l.i
+abbrev pub invariant-loop-byte : goal.invariant-loop-byte
+invariant-loop-byte l = Line hex_byte reply_word l.bytes l.fn.out l.byte-index l.out l.place

@@ -1,38 +1,27 @@
-use mathlib.Core.Path.{◌≡◌, refl, ◌∙◌}
-use lib.ListN.{length, drop, set, length-set, length-drop}
+use Rattle.std.proofs.Common.{◌≡◌, refl, ◌∙◌, ◌+◌, ◌-◌, ◌%◌, arith, set, drop, length, length-set, length-drop}
 use lib.Seq.{take_all}
+use Rattle.history.proofs.NumberLaws.{next_digit, first_digit, all_digits}
 use Rattle.history.proofs.AppendingLaws.{appends_same}
-use Prim.Native.Nat.{◌+◌, ◌-◌, ◌<◌}
-use native.Mathlib.Omega.{arith}
-use Rattle.history.proofs.NumberLaws.{more_left, next_digit, first_digit}
 use Rattle.history.proofs.text.decimal.Goals as goal
 
-pub loop-rest-init : goal.loop-rest-init
-loop-rest-init c = (omega arith, omega arith, refl, refl)
+pub loop-left-init : goal.loop-left-init
+loop-left-init c = ((refl, refl), refl)
 
-pub overflow_sub-left : goal.overflow_sub-left
-overflow_sub-left c =
-    let further : 0 < c.loop-rest.left = more_left c.loop-rest.left c.loop-rest.rest c.loop-rest-test.true c.loop-rest.invariant.1 in
-    further
+pub loop-left-preserved : goal.loop-left-preserved
+loop-left-preserved c =
+    (next_digit c.args.number c.loop-left.digits c.loop-left.left c.loop-left.rest (omega arith) (omega arith) c.if-rest-eq0.false c.loop-left.invariant.0, c.loop-left.invariant.1)
 
-pub loop-rest-smaller : goal.loop-rest-smaller
-loop-rest-smaller c =
-    let further : 0 < c.loop-rest.left = more_left c.loop-rest.left c.loop-rest.rest c.loop-rest-test.true c.loop-rest.invariant.1 in
-    omega (arith, further)
-
-pub loop-rest-preserved : goal.loop-rest-preserved
-loop-rest-preserved c =
-    next_digit c.args.number c.loop-rest.digits c.loop-rest.left c.loop-rest.rest c.loop-rest-test.true c.loop-rest.invariant
-
-pub slice_bounds-append-end : goal.slice_bounds-append-end
-slice_bounds-append-end c =
-    let size : length (set c.loop-rest.digits c.loop-rest.left (48 + c.loop-rest.rest)) ≡ 20 = simp length-set c.loop-rest.invariant.2 in
-    omega (arith, size)
+pub returns-then-rest-eq0 : goal.returns-then-rest-eq0
+returns-then-rest-eq0 c =
+    let at = c.loop-left.left - 1 in
+    let digits = set c.loop-left.digits at (48 + c.loop-left.rest % 10) in
+    let size : length digits ≡ 20 = simp length-set c.loop-left.invariant.0.0 in
+    let all = take_all (20 - at) (drop at digits) (simp length-drop (omega (arith, size))) in
+    let text = first_digit c.args.number c.loop-left.digits c.loop-left.left c.loop-left.rest (omega arith) (omega arith) c.if-rest-eq0.true c.loop-left.invariant.0 in
+    rw (← c.loop-left.invariant.1) (appends_same (all ∙ text) c.append.ensures)
 
 pub returns : goal.returns
 returns c =
-    let digits = set c.loop-rest.digits c.loop-rest.left (48 + c.loop-rest.rest) in
-    let size : length digits ≡ 20 = simp length-set c.loop-rest.invariant.2 in
-    let all = take_all (20 - c.loop-rest.left) (drop c.loop-rest.left digits) (simp length-drop (omega (arith, size))) in
-    let text = all ∙ first_digit c.args.number c.loop-rest.digits c.loop-rest.left c.loop-rest.rest c.loop-rest-test.false c.loop-rest.invariant in
-    appends_same text c.append.ensures
+    let last : c.loop-left.left ≡ 0 = omega arith in
+    let text = all_digits c.args.number c.loop-left.digits c.loop-left.rest (rw last at c.loop-left.invariant.0) in
+    rw (← c.loop-left.invariant.1) (appends_same text c.append-2.ensures)

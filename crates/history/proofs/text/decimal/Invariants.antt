@@ -1,9 +1,7 @@
 -- `history::text::decimal` meets its contract: each turn puts the last digit of what is left before those put so far.
+use Rattle.std.proofs.Common.{◌≡◌}
 use Rattle.history.proofs.NumberLaws.{Spelling}
 use Rattle.history.proofs.text.decimal.Given as goal
 
-abbrev pub invariant-loop-rest : goal.invariant-loop-rest
-invariant-loop-rest l = Spelling l.number l.digits l.left l.rest
-
-abbrev pub decreases-loop-rest : goal.decreases-loop-rest
-decreases-loop-rest l = l.left
+abbrev pub invariant-loop-left : goal.invariant-loop-left
+invariant-loop-left l = Spelling l.number l.digits l.left l.rest × (l.out ≡ l.fn.out)

@@ -1,9 +1,0 @@
--- `history::fields::judge_tick` meets its contract: its test is that of the definition.
-use borrow.Author.Tests.{eq-eqb, ne_eqb}
-use Rattle.history.proofs.fields.judge_tick.Goals as goal
-
-pub returns-then-size-eq0 : goal.returns-then-size-eq0
-returns-then-size-eq0 c = rw (eq-eqb c.args.size 0 c.if-size-eq0.true)
-
-pub returns : goal.returns
-returns c = rw (ne_eqb c.args.size 0 c.if-size-eq0.false)

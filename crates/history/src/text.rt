@@ -5,9 +5,9 @@ ghost use Rattle.history.specs.Appending.{Appends};
 ghost use Rattle.history.specs.Numbers.{decimal_of, signed_of, hex_digit, hex_byte};
 
 // The digit 0. The letters of hexadecimal digits begin at `a`, which stands for ten.
-const ZERO: u8 = 48;
+const ZERO: u8 = b'0';
 
-const TEN: u8 = 97 - 10;
+const TEN: u8 = b'a' - 10;
 
 // Enough for a number of 64 bits in decimal.
 const DIGITS_MAX: usize = 20;
@@ -41,6 +41,7 @@ pub fn decimal(out: &mut [u8], at: usize, number: u64) -> usize
             return append(out, at, &digits[left..]);
         }
     }
+    // Not reached: there are places for all digits.
     append(out, at, &digits)
 }
 

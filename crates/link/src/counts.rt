@@ -1,6 +1,6 @@
 // The ten counts. Each goes from 65,535 back to 0.
 ghost use Rattle.std.specs.Prelude.{◌≡◌};
-ghost use Rattle.link.specs.Counts.{no_counts, plus_one, count_of};
+ghost use Rattle.link.specs.Counts.{no_counts, count_of};
 
 // How many refusals a frame can meet.
 pub const FRAME_REFUSALS: usize = 6;
@@ -42,47 +42,34 @@ pub fn none() -> Counts
 pub fn count(counts: Counts, event: Event) -> Counts
     ensures { result ≡ count_of event counts }
 {
-    let mut next = counts;
     match event {
-        Event::New => {
-            next.new = more(counts.new);
-        }
-        Event::Again => {
-            next.again = more(counts.again);
-        }
-        Event::Heard => {
-            next.heard = more(counts.heard);
-        }
-        Event::Unread => {
-            next.unread = more(counts.unread);
-        }
-        Event::Refused(number) => {
-            return count_refused(counts, number);
-        }
+        Event::New => Counts {
+            new: counts.new.wrapping_add(1),
+            ..counts
+        },
+        Event::Again => Counts {
+            again: counts.again.wrapping_add(1),
+            ..counts
+        },
+        Event::Heard => Counts {
+            heard: counts.heard.wrapping_add(1),
+            ..counts
+        },
+        Event::Unread => Counts {
+            unread: counts.unread.wrapping_add(1),
+            ..counts
+        },
+        Event::Refused(number) => count_refused(counts, number as usize),
     }
-    next
 }
 
 // Counts the refusal of a frame. Another refusal has no count.
-fn count_refused(counts: Counts, number: u8) -> Counts
+fn count_refused(counts: Counts, number: usize) -> Counts
     ensures { result ≡ count_of (Event.Refused number) counts }
 {
-    if number == 0 {
-        return counts;
-    }
-    let at = number as usize - 1;
-    if FRAME_REFUSALS <= at {
-        return counts;
-    }
     let mut next = counts;
-    let before = next.refused[at];
-    let after = more(before);
-    next.refused[at] = after;
+    if 0 < number && number <= FRAME_REFUSALS {
+        next.refused[number - 1] = next.refused[number - 1].wrapping_add(1);
+    }
     next
-}
-
-fn more(count: u16) -> u16
-    ensures { result ≡ plus_one count }
-{
-    std::num::wrapping_add_u16(count, 1)
 }

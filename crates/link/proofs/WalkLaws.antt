@@ -8,6 +8,7 @@ use Rattle.link.specs.declared.reader.Reader.{Reader}
 use Rattle.link.specs.declared.reader.Ended.{Ended}
 use Rattle.link.specs.declared.reader.Ended.TheVariants as ends
 use Rattle.link.specs.Reader.{behind_flag, ended_by, step_of, content_after}
+use Rattle.link.specs.Steps.{StepsAs}
 use Rattle.link.specs.Walk.{Turn, goes_on, stops, flag_turn, turn_of, Walk, go_on, walk_of}
 
 module _ (content : List ℕ) (reader : Reader) (b : ℕ) where
@@ -20,13 +21,19 @@ module _ (content : List ℕ) (reader : Reader) (b : ℕ) where
   unfolding turn_of
   turn_byte ne = rw (ne_eqb b flag_byte ne)
 
+-- a flag that ended something stops the walk
+stopped : (content : List ℕ) (end : Ended) → (end ≡ ends.Nothing → ⊥) → flag_turn content end ≡ stops end
+stopped content ends.Nothing k = absurd (k refl)
+stopped content (ends.Content n) k = refl
+stopped content (ends.Refused n place) k = refl
+
 module _ (piece : List ℕ) (i : ℕ) (content : List ℕ) (reader : Reader) where
-  pub walk_on : i < length piece → (content₁ : List ℕ) (reader₁ : Reader) → turn_of content reader (get_or piece i 0) ≡ goes_on content₁ reader₁
+  walk_on : i < length piece → (content₁ : List ℕ) (reader₁ : Reader) → turn_of content reader (get_or piece i 0) ≡ goes_on content₁ reader₁
       → walk_of (drop i piece) content reader i ≡ walk_of (drop (i + 1) piece) content₁ reader₁ (i + 1)
   unfolding walk_of
   walk_on h content₁ reader₁ e = rw (add-one, drop-cons piece i 0 h, e)
 
-  pub walk_stop : i < length piece → (end : Ended) → turn_of content reader (get_or piece i 0) ≡ stops end
+  walk_stop : i < length piece → (end : Ended) → turn_of content reader (get_or piece i 0) ≡ stops end
       → walk_of (drop i piece) content reader i ≡ record { content = content; reader = behind_flag; taken = i + 1; ended = end }
   unfolding walk_of
   walk_stop h end e = rw (add-one, drop-cons piece i 0 h, e)
@@ -35,6 +42,21 @@ module _ (piece : List ℕ) (i : ℕ) (content : List ℕ) (reader : Reader) whe
       → walk_of (drop i piece) content reader i ≡ record { content = content; reader = reader; taken = i; ended = ends.Nothing }
   unfolding walk_of
   walk_end h = rw (drop_of_length-le piece h)
+
+  module _ (h : i < length piece) where
+    pub walk_byte : (get_or piece i 0 ≡ flag_byte → ⊥) → (reader₁ : Reader) (content₁ : List ℕ)
+        → StepsAs (step_of reader (get_or piece i 0)) reader.length content reader₁ content₁
+        → walk_of (drop i piece) content reader i ≡ walk_of (drop (i + 1) piece) content₁ reader₁ (i + 1)
+    walk_byte ne reader₁ content₁ did =
+        rw (did.answers, did.array) (walk_on h _ _ (turn_byte content reader (get_or piece i 0) ne))
+
+    module _ (is : get_or piece i 0 ≡ flag_byte) (end : Ended) (did : end ≡ ended_by reader) where
+      pub walk_empty : end ≡ ends.Nothing → walk_of (drop i piece) content reader i ≡ walk_of (drop (i + 1) piece) content behind_flag (i + 1)
+      walk_empty none = walk_on h _ _ (turn_flag content reader (get_or piece i 0) is ∙ ap (flag_turn content) (sym did ∙ none))
+
+      pub walk_ended : (end ≡ ends.Nothing → ⊥)
+          → walk_of (drop i piece) content reader i ≡ record { content = content; reader = behind_flag; taken = i + 1; ended = end }
+      walk_ended some = walk_stop h end (turn_flag content reader (get_or piece i 0) is ∙ ap (flag_turn content) (sym did) ∙ stopped content end some)
 
 -- the array of content keeps its length
 pub turn_length : (content : List ℕ) (reader : Reader) (b : ℕ) (content₁ : List ℕ) (reader₁ : Reader) → turn_of content reader b ≡ goes_on content₁ reader₁

@@ -18,30 +18,25 @@ pub fn walk(piece: &[u8], content: &mut [u8; CONTENT_MAX], reader: Reader) -> Wa
     ensures { WalksAs (walk_of piece.now content.old reader 0) result content.new }
 {
     let mut next = reader;
-    let mut i: usize = 0;
-    while i < piece.len() {
-        let byte = piece[i];
-        i += 1;
-        if byte == FLAG {
-            let ended = ended_by_flag(next);
-            next = behind_flag();
-            match ended {
-                Ended::Nothing => {}
-                _ => {
-                    return Walked {
-                        reader: next,
-                        taken: i,
-                        ended,
-                    };
-                }
+    for (i, byte) in piece.iter().enumerate() {
+        if *byte != FLAG {
+            next = step(next, *byte, content);
+            continue;
+        }
+        match ended_by_flag(next) {
+            Ended::Nothing => next = behind_flag(),
+            ended => {
+                return Walked {
+                    reader: behind_flag(),
+                    taken: i + 1,
+                    ended,
+                };
             }
-        } else {
-            next = step(next, byte, content);
         }
     }
     Walked {
         reader: next,
-        taken: i,
+        taken: piece.len(),
         ended: Ended::Nothing,
     }
 }

@@ -1,11 +1,12 @@
 -- One byte that is no flag, one law for each way that the reader goes: its phase and what the byte means settle the step.
+use mathlib.Core.Logic.{◌⊎◌, inl, inr}
 use Rattle.std.proofs.Common.{◌≡◌, ℕ, suc, ◌<◌, ◌≤◌, List, [], ◌∷◌, refl, le-ltb, lt-ltb}
 use Rattle.frame.specs.Stuffing.{escape_byte, escaped_flag, escaped_escape, content_max, plain, escaped, Meaning, escapes_next, faulty, meaning}
 use Rattle.frame.proofs.UnstuffLaws.{plain_escape, escaped_fault}
 use Rattle.link.specs.declared.reader.Phase.{Phase}
-use Rattle.link.specs.declared.reader.Phase.TheVariants.{Plain, Escaped, BadFraming, LongContent}
+use Rattle.link.specs.declared.reader.Phase.TheVariants.{Before, Plain, Escaped, BadFraming, LongContent}
 use Rattle.link.specs.declared.reader.Reader.{Reader}
-use Rattle.link.specs.Reader.{next_place, Step, turned, store_of, step_by, step_in, step_of}
+use Rattle.link.specs.Reader.{next_place, Step, turned, store_of, step_by, step_of}
 use Rattle.link.specs.Steps.{StepsAs}
 
 -- a byte of content is stored while there is room
@@ -40,7 +41,9 @@ module _ (reader : Reader) (b place : ℕ) (next : place ≡ next_place reader.p
     faults e no_flag no_escape = turns _ BadFraming reader.length place content (step_escaped faulty e (escaped_fault b no_flag no_escape))
 
 -- before the first flag and behind a fault no byte changes anything
-pub idles : (reader : Reader) (b : ℕ) (content : List ℕ) (phase : Phase) → ((held place : ℕ) → step_in phase held place b ≡ turned phase held place)
-    → reader.phase ≡ phase → StepsAs (step_of reader b) reader.length content reader content
+pub idles : (reader : Reader) (b : ℕ) (content : List ℕ) → (reader.phase ≡ Before) ⊎ ((reader.phase ≡ BadFraming) ⊎ (reader.phase ≡ LongContent))
+    → StepsAs (step_of reader b) reader.length content reader content
 unfolding step_of
-idles reader b content phase idle e = turns _ reader.phase reader.length reader.place content (rw (e, idle reader.length reader.place))
+idles reader b content (inl e) = rw e (turns _ Before reader.length reader.place content refl)
+idles reader b content (inr (inl e)) = rw e (turns _ BadFraming reader.length reader.place content refl)
+idles reader b content (inr (inr e)) = rw e (turns _ LongContent reader.length reader.place content refl)

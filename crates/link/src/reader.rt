@@ -51,15 +51,10 @@ pub(crate) fn behind_flag() -> Reader
 pub(crate) fn ended_by_flag(reader: Reader) -> Ended
     ensures { result ≡ ended_by reader }
 {
-    let phase = reader.phase;
-    match phase {
+    match reader.phase {
         Phase::Before => Ended::Nothing,
-        Phase::Plain => {
-            if reader.length == 0 {
-                return Ended::Nothing;
-            }
-            Ended::Content(reader.length)
-        }
+        Phase::Plain if reader.length == 0 => Ended::Nothing,
+        Phase::Plain => Ended::Content(reader.length),
         Phase::Escaped => Ended::Refused {
             number: BAD_FRAMING,
             place: next_place(reader.place),
@@ -79,36 +74,30 @@ pub(crate) fn ended_by_flag(reader: Reader) -> Ended
 pub(crate) fn step(reader: Reader, byte: u8, content: &mut [u8; CONTENT_MAX]) -> Reader
     ensures { StepsAs (step_of reader byte) reader.length content.old result content.new }
 {
-    let phase = reader.phase;
-    let length = reader.length;
     let place = next_place(reader.place);
-    match phase {
-        Phase::Plain => {
-            if byte == ESCAPE {
-                return Reader {
-                    phase: Phase::Escaped,
-                    length,
-                    place,
-                };
-            }
-            store(length, place, byte, content)
-        }
+    match reader.phase {
+        Phase::Plain => match byte {
+            ESCAPE => Reader {
+                phase: Phase::Escaped,
+                place,
+                ..reader
+            },
+            _ => store(reader.length, place, byte, content),
+        },
         Phase::Escaped => match byte {
             ESCAPED_FLAG | ESCAPED_ESCAPE => store(
-                length,
+                reader.length,
                 place,
                 byte + ESCAPED_DIFFERENCE,
                 content,
             ),
             _ => Reader {
                 phase: Phase::BadFraming,
-                length,
                 place,
+                ..reader
             },
         },
-        Phase::Before => reader,
-        Phase::BadFraming => reader,
-        Phase::LongContent => reader,
+        Phase::Before | Phase::BadFraming | Phase::LongContent => reader,
     }
 }
 

@@ -1,21 +1,29 @@
 -- A frame at its closing flag, one law for each way through the code: what the tests on the way say of it settles the outcome.
 -- Nine bytes are room for its acknowledgement, of which at most three are escaped.
-use Rattle.std.proofs.Common.{◌≡◌, ℕ, ◌/◌, ◌%◌, ◌≤◌, Bool, true, false, eqb, List, [], ◌∷◌, length, sym, refl, ◌∙◌, arith, eq-eqb, ne_eqb}
+use Rattle.std.proofs.Common.{◌≡◌, ℕ, ◌+◌, ◌-◌, ◌/◌, ◌%◌, ◌≤◌, Bool, true, false, eqb, List, [], ◌∷◌, length, take, drop, sym, refl, ap, ◌∙◌, arith, eq-eqb, ne_eqb}
 use Rattle.refusals.specs.Numbers.{unknown_type}
 use Rattle.slices.proofs.Impossible.{impossible}
 use Rattle.slices.specs.Each.{each}
+use Rattle.slices.specs.Put.{put_at}
 use Rattle.slices.specs.Written.{written, WritesAs}
 use Rattle.slices.specs.declared.Written as declared
 use Rattle.crc.specs.Crc.{link_start, crc_of}
 use Rattle.frame.specs.Stuffing.{stuff}
-use Rattle.frame.specs.Content.{data_type, acknowledgement_type, frame, refused, no_place, content_of, judged}
+use Rattle.frame.specs.Content.{data_type, acknowledgement_type, Read, no_place, content_of, judged}
+use Rattle.frame.specs.Answers.{read_answer}
+use Rattle.frame.specs.declared.content.FrameRead.TheVariants as answer
 use Rattle.frame.specs.Writing.{write_frame}
 use Rattle.frame.proofs.StuffLaws.{length_stuff}
+use Rattle.frame.proofs.ContentLaws.{answer_refused, answer_frame, payload_part, length_payload}
 use Rattle.frame.proofs.WriteLaws.{length_framed, content_room, payload_allowed}
 use Rattle.link.specs.declared.counts.Counts.{Counts}
+use Rattle.link.specs.declared.counts.Event.TheVariants as event
 use Rattle.link.specs.declared.receiver.Last.{Last}
+use Rattle.link.specs.declared.receiver.Last.TheVariants.{Sequence}
+use Rattle.link.specs.declared.receiver.Answer.TheVariants as says
 use Rattle.link.specs.declared.closing.Closed.{Closed}
-use Rattle.link.specs.Closing.{reply_room, acknowledgement, repeats, Outcome, refused_frame, acknowledgement_frame, again_frame, new_frame, data_frame, frame_outcome}
+use Rattle.link.specs.Counts.{count_of}
+use Rattle.link.specs.Closing.{reply_room, acknowledgement, repeats, Outcome, refused_frame, acknowledgement_frame, data_frame, read_outcome, frame_outcome}
 use Rattle.link.specs.Steps.{closed_by, ClosesAs, AcknowledgesAs}
 
 -- of an acknowledgement's four bytes of content the type is not escaped
@@ -57,14 +65,20 @@ module _ (q : ℕ) (reply : List ℕ) (answer : declared.Written) (exit : List �
       let other : declared.TheVariants.Refused n ≡ declared.TheVariants.Length (length (acknowledgement q)) = sym told ∙ w'.answers in
       impossible cc
 
-module _ (q : ℕ) (payload : List ℕ) (previous : Last) (before : Counts) where
-  pub data_again : repeats previous q ≡ true → data_frame q payload previous before ≡ again_frame q previous before
+-- a data frame, by whether it came again
+module _ (q : ℕ) (payload : List ℕ) (previous : Last) (before : Counts) (size : ℕ) (reply packet reply₁ packet₁ : List ℕ)
+    (told : AcknowledgesAs q reply size reply₁) where
+  pub closes_again : repeats previous q ≡ true
+      → ClosesAs (data_frame q payload previous before) reply packet
+      (record { state = record { last = previous; counts = count_of event.Again before }; answer = says.Again size }) reply₁ packet
   unfolding data_frame
-  data_again e = rw e
+  closes_again e = rw (e, told.answers) (record { answers = refl; replied = told.replied; handed_out = refl })
 
-  pub data_new : repeats previous q ≡ false → data_frame q payload previous before ≡ new_frame q payload before
+  pub closes_new : repeats previous q ≡ false → packet₁ ≡ put_at packet 0 payload
+      → ClosesAs (data_frame q payload previous before) reply packet
+      (record { state = record { last = Sequence q; counts = count_of event.New before }; answer = says.New size (length payload) }) reply₁ packet₁
   unfolding data_frame
-  data_new e = rw e
+  closes_new e put = rw (e, told.answers) (record { answers = refl; replied = told.replied; handed_out = put })
 
 -- a frame that is refused puts nothing
 pub refuses : (o : Outcome) (n place : ℕ) (previous : Last) (before : Counts) (result : Closed) (reply packet : List ℕ)
@@ -81,23 +95,38 @@ heard q size previous before reply packet = cases (eqb size 0) refl
     cases true e = rw e (record { answers = refl; replied = refl; handed_out = refl })
     cases false e = rw e (record { answers = refl; replied = refl; handed_out = refl })
 
+-- the payload of whole content stands within it
+pub payload_ends : (c : List ℕ) (kind q n : ℕ) → answer.Frame kind q n ≡ read_answer (judged c) → n + 2 ≤ length c
+payload_ends c kind q n e = let found = answer_frame c kind q n e in omega (arith, found.whole, found.size)
+
 -- whole content, by what it was judged to be and by its type
-module _ (c : List ℕ) (previous : Last) (before : Counts) where
-  pub frame_refused : (n place : ℕ) → judged c ≡ refused n place → frame_outcome c previous before ≡ refused_frame n place previous before
+module _ (c : List ℕ) (previous : Last) (before : Counts) (reply packet : List ℕ) (result : Closed) where
+  pub closes_refused : (n place : ℕ) → answer.Refused n place ≡ read_answer (judged c) → result ≡ closed_by (refused_frame n place previous before)
+      → ClosesAs (frame_outcome c previous before) reply packet result reply packet
   unfolding frame_outcome
-  frame_refused n place e = rw e
+  closes_refused n place e told =
+      refuses _ n place previous before result reply packet (ap (λ (found : Read). read_outcome found previous before) (answer_refused (judged c) n place e)) told
 
-  module _ (kind q : ℕ) (payload : List ℕ) (e : judged c ≡ frame kind q payload) where
-    pub frame_data : kind ≡ data_type → frame_outcome c previous before ≡ data_frame q payload previous before
+  module _ (kind q n : ℕ) (e : answer.Frame kind q n ≡ read_answer (judged c)) where
+    pub closes_data : (reply₁ packet₁ : List ℕ) → kind ≡ data_type
+        → ClosesAs (data_frame q (take (n + 2 - 2) (drop 2 c)) previous before) reply packet result reply₁ packet₁
+        → ClosesAs (frame_outcome c previous before) reply packet result reply₁ packet₁
     unfolding frame_outcome
-    frame_data is = rw (e, eq-eqb kind data_type is)
+    closes_data reply₁ packet₁ is did =
+        let found = answer_frame c kind q n e in
+        rw (found.found, eq-eqb kind data_type is, ← payload_part c n found.whole found.size) did
 
-    pub frame_acknowledgement : (kind ≡ data_type → ⊥) → kind ≡ acknowledgement_type
-        → frame_outcome c previous before ≡ acknowledgement_frame q (length payload) previous before
+    pub closes_heard : kind ≡ acknowledgement_type → result ≡ closed_by (acknowledgement_frame q n previous before)
+        → ClosesAs (frame_outcome c previous before) reply packet result reply packet
     unfolding frame_outcome
-    frame_acknowledgement other is = rw (e, ne_eqb kind data_type other, eq-eqb kind acknowledgement_type is)
+    closes_heard is told =
+        let found = answer_frame c kind q n e in
+        rw (found.found, is, length_payload c, ← found.size, told) (heard q n previous before reply packet)
 
-    pub frame_unknown : (kind ≡ data_type → ⊥) → (kind ≡ acknowledgement_type → ⊥)
-        → frame_outcome c previous before ≡ refused_frame unknown_type no_place previous before
+    pub closes_unknown : (kind ≡ data_type → ⊥) → (kind ≡ acknowledgement_type → ⊥) → result ≡ closed_by (refused_frame unknown_type no_place previous before)
+        → ClosesAs (frame_outcome c previous before) reply packet result reply packet
     unfolding frame_outcome
-    frame_unknown other neither = rw (e, ne_eqb kind data_type other, ne_eqb kind acknowledgement_type neither)
+    closes_unknown other neither told =
+        let found = answer_frame c kind q n e in
+        refuses _ unknown_type no_place previous before result reply packet
+        (rw (found.found, ne_eqb kind data_type other, ne_eqb kind acknowledgement_type neither)) told

@@ -23,7 +23,7 @@ pub record WalksAs (walk : Walk) (answer : Walked) (exit : List ℕ) : Type 0 wh
 
 -- a closed frame: what it leaves, and what is put at the start of the two buffers
 abbrev pub closed_by : Outcome → Closed
-closed_by o = record { last = o.last; counts = o.counts; answer = o.answer }
+closed_by o = record { state = record { last = o.last; counts = o.counts }; answer = o.answer }
 
 pub record ClosesAs (o : Outcome) (reply₀ packet₀ : List ℕ) (result : Closed) (reply₁ packet₁ : List ℕ) : Type 0 where
   pub answers : result ≡ closed_by o

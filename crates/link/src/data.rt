@@ -3,8 +3,8 @@ ghost use Rattle.std.specs.Prelude.{◌≡◌, ◌≤◌, length};
 ghost use Rattle.link.specs.Closing.{reply_room, repeats, data_frame};
 ghost use Rattle.link.specs.Steps.{ClosesAs, AcknowledgesAs};
 
-use crate::closing::Closed;
-use crate::counts::{Counts, Event, count};
+use crate::closing::{Closed, State, counted};
+use crate::counts::Event;
 use crate::receiver::{Answer, Last};
 use frame::ACKNOWLEDGEMENT;
 use frame::writer::{Written, write_frame};
@@ -13,28 +13,26 @@ use frame::writer::{Written, write_frame};
 pub(crate) fn take_data(
     sequence: u8,
     payload: &[u8],
-    last: Last,
-    counts: Counts,
+    state: State,
     reply: &mut [u8],
     packet: &mut [u8],
 ) -> Closed
     requires { reply_room ≤ length reply.old }
-    ensures { ClosesAs (data_frame sequence payload.now last counts) reply.old packet.old result reply.new packet.new }
+    ensures { ClosesAs (data_frame sequence payload.now state.last state.counts) reply.old packet.old result reply.new packet.new }
 {
     let length = acknowledge(sequence, reply);
-    if repeated(last, sequence) {
-        let counted = count(counts, Event::Again);
+    if repeated(state.last, sequence) {
         return Closed {
-            last,
-            counts: counted,
+            state: counted(state, Event::Again),
             answer: Answer::Again(length),
         };
     }
     slices::put(packet, 0, payload);
-    let counted = count(counts, Event::New);
     Closed {
-        last: Last::Sequence(sequence),
-        counts: counted,
+        state: State {
+            last: Last::Sequence(sequence),
+            ..counted(state, Event::New)
+        },
         answer: Answer::New {
             reply: length,
             packet: payload.len(),

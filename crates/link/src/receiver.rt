@@ -3,7 +3,7 @@
 ghost use Rattle.std.specs.Prelude.{◌≡◌, length};
 ghost use Rattle.link.specs.Receiving.{fresh_link, with_unread_packet, short_received, receive_of, ReceivesAs};
 
-use crate::closing::close;
+use crate::closing::{State, close};
 use crate::counts::{Counts, Event, count, none};
 use crate::reader::{Phase, Reader};
 use crate::walk::walk;
@@ -69,10 +69,10 @@ pub fn fresh() -> Link
 pub fn count_unread(link: Link) -> Link
     ensures { result ≡ with_unread_packet link }
 {
-    let mut next = link;
-    let counted = count(link.counts, Event::Unread);
-    next.counts = counted;
-    next
+    Link {
+        counts: count(link.counts, Event::Unread),
+        ..link
+    }
 }
 
 // Takes bytes of the piece up to the flag that ends a frame, or all of them. A reply is put at the
@@ -81,31 +81,25 @@ pub fn count_unread(link: Link) -> Link
 pub fn receive(link: Link, piece: &[u8], reply: &mut [u8], packet: &mut [u8]) -> Received
     ensures { ReceivesAs (receive_of link piece.now (length reply.old) (length packet.old)) reply.old packet.old result reply.new packet.new }
 {
-    if reply.len() < REPLY_ROOM {
-        return short_output(link);
-    }
-    if packet.len() < PAYLOAD_MAX {
+    if reply.len() < REPLY_ROOM || packet.len() < PAYLOAD_MAX {
         return short_output(link);
     }
     let mut content = link.content;
-    let start = link.reader;
-    let walked = walk(piece, &mut content, start);
-    let ended = walked.ended;
-    let previous = link.last;
-    let closed = close(ended, &content, previous, link.counts, reply, packet);
-    let reader = walked.reader;
-    let last = closed.last;
-    let counts = closed.counts;
-    let answer = closed.answer;
+    let walked = walk(piece, &mut content, link.reader);
+    let before = State {
+        last: link.last,
+        counts: link.counts,
+    };
+    let closed = close(walked.ended, &content, before, reply, packet);
     Received {
         link: Link {
             content,
-            reader,
-            last,
-            counts,
+            reader: walked.reader,
+            last: closed.state.last,
+            counts: closed.state.counts,
         },
         taken: walked.taken,
-        answer,
+        answer: closed.answer,
     }
 }
 

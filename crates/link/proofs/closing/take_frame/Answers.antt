@@ -1,50 +1,27 @@
 -- `link::closing::take_frame` meets its contract: what `judge` answered says what the content is, and each type has its law.
 use Rattle.std.proofs.Common.{arith}
-use Rattle.refusals.specs.Numbers.{unknown_type}
-use Rattle.frame.specs.Content.{no_place, judged}
-use Rattle.frame.proofs.ContentLaws.{FoundFrame, answer_refused, answer_frame, payload_part, length_payload}
-use Rattle.link.proofs.ClosingLaws.{refuses, heard, frame_refused, frame_data, frame_acknowledgement, frame_unknown}
+use Rattle.link.proofs.ClosingLaws.{closes_refused, closes_data, closes_heard, closes_unknown, payload_ends}
 use Rattle.link.proofs.closing.take_frame.Goals as goal
 
-pub overflow_add-end : goal.overflow_add-end
-overflow_add-end c =
-    let found : FoundFrame c.args.content.now c.in-Frame.kind c.in-Frame.sequence c.in-Frame.length = answer_frame c.args.content.now _ _ _ (c.in-Frame.ensures) in
-    let f = found in omega (arith, f.whole, f.size)
+pub overflow_add-payload : goal.overflow_add-payload
+overflow_add-payload c = let ends = payload_ends c.args.content.now _ _ _ c.in-Frame.ensures in omega arith
 
-pub slice_bounds-take_data-end : goal.slice_bounds-take_data-end
-slice_bounds-take_data-end c =
-    let found : FoundFrame c.args.content.now c.in-Frame.kind c.in-Frame.sequence c.in-Frame.length = answer_frame c.args.content.now _ _ _ (c.in-Frame.ensures) in
-    let f = found in omega (arith, f.whole, f.size)
+pub slice_bounds-payload-end : goal.slice_bounds-payload-end
+slice_bounds-payload-end c = let ends = payload_ends c.args.content.now _ _ _ c.in-Frame.ensures in omega arith
 
-pub returns-then-kind-eq-DATA : goal.returns-then-kind-eq-DATA
-returns-then-kind-eq-DATA c =
-    let found : FoundFrame c.args.content.now c.in-Frame.kind c.in-Frame.sequence c.in-Frame.length = answer_frame c.args.content.now _ _ _ (c.in-Frame.ensures) in
-    let f = found in
-    rw (
-      frame_data c.args.content.now c.args.last c.args.counts _ _ _ f.found c.if-kind-eq-DATA.true,
-      ← payload_part c.args.content.now c.in-Frame.length f.whole f.size,
-    )
-    c.take_data.ensures
+pub returns-in-1 : goal.returns-in-1
+returns-in-1 c =
+    closes_data c.args.content.now c.args.state.last c.args.state.counts _ _ _ _ _ _ c.in-Frame.ensures _ _ c.in-1.is c.take_data.ensures
 
-pub returns-then-kind-eq-ACKNOWLEDGEMENT : goal.returns-then-kind-eq-ACKNOWLEDGEMENT
-returns-then-kind-eq-ACKNOWLEDGEMENT c =
-    let found : FoundFrame c.args.content.now c.in-Frame.kind c.in-Frame.sequence c.in-Frame.length = answer_frame c.args.content.now _ _ _ (c.in-Frame.ensures) in
-    let f = found in
-    rw (
-      frame_acknowledgement c.args.content.now c.args.last c.args.counts _ _ _ f.found c.if-kind-eq-DATA.false c.if-kind-eq-ACKNOWLEDGEMENT.true,
-      length_payload c.args.content.now,
-      ← f.size,
-      c.hear.ensures,
-    )
-    (heard c.in-Frame.sequence c.in-Frame.length c.args.last c.args.counts c.args.reply.now c.args.packet.now)
+pub returns-in-2 : goal.returns-in-2
+returns-in-2 c =
+    closes_heard c.args.content.now c.args.state.last c.args.state.counts c.args.reply.now c.args.packet.now _ _ _ _ c.in-Frame.ensures c.in-2.is c.hear.ensures
 
 pub returns-in-Refused : goal.returns-in-Refused
 returns-in-Refused c =
-    let is = answer_refused (judged c.args.content.now) _ _ (c.in-Refused.ensures) in
-    refuses _ _ _ c.args.last c.args.counts _ c.args.reply.now c.args.packet.now (frame_refused c.args.content.now c.args.last c.args.counts _ _ is) c.refuse.ensures
+    closes_refused c.args.content.now c.args.state.last c.args.state.counts c.args.reply.now c.args.packet.now _ _ _ c.in-Refused.ensures c.refuse.ensures
 
-pub returns-else-kind-eq-ACKNOWLEDGEMENT : goal.returns-else-kind-eq-ACKNOWLEDGEMENT
-returns-else-kind-eq-ACKNOWLEDGEMENT c =
-    let found : FoundFrame c.args.content.now c.in-Frame.kind c.in-Frame.sequence c.in-Frame.length = answer_frame c.args.content.now _ _ _ (c.in-Frame.ensures) in
-    let is = frame_unknown c.args.content.now c.args.last c.args.counts _ _ _ found.found c.if-kind-eq-DATA.false c.if-kind-eq-ACKNOWLEDGEMENT.false in
-    refuses _ unknown_type no_place c.args.last c.args.counts _ c.args.reply.now c.args.packet.now is c.refuse-in-Frame.ensures
+pub returns-in_default : goal.returns-in_default
+returns-in_default c =
+    closes_unknown c.args.content.now c.args.state.last c.args.state.counts c.args.reply.now c.args.packet.now _ _ _ _ c.in-Frame.ensures
+    (λ e. omega arith) (λ e. omega arith) c.refuse-in_default.ensures

@@ -1,24 +1,16 @@
 -- `link::data::take_data` meets its contract: what it calls answers for the reply, the counts and the packet.
-use Rattle.std.proofs.Common.{sym, refl, ◌∙◌}
-use Rattle.link.proofs.ClosingLaws.{data_again, data_new}
+use Rattle.std.proofs.Common.{sym, ◌∙◌}
+use Rattle.link.proofs.ClosingLaws.{closes_again, closes_new}
 use Rattle.link.proofs.data.take_data.Goals as goal
 
 pub returns-then-repeated : goal.returns-then-repeated
 returns-then-repeated c =
-    let again = sym c.repeated.ensures ∙ c.if-repeated.true in
-    rw (data_again c.args.sequence c.args.payload.now c.args.last c.args.counts again)
-    (record {
-      answers = rw (c.count-counted.ensures, c.acknowledge-length.ensures.answers);
-      replied = c.acknowledge-length.ensures.replied;
-      handed_out = refl;
-    })
+    rw c.counted.ensures
+    (closes_again c.args.sequence c.args.payload.now c.args.state.last c.args.state.counts _ c.args.reply.now c.args.packet.now _ c.args.packet.now c.acknowledge-length.ensures
+    (sym c.repeated.ensures ∙ c.if-repeated.true))
 
 pub returns : goal.returns
 returns c =
-    let new = sym c.repeated.ensures ∙ c.if-repeated.false in
-    rw (data_new c.args.sequence c.args.payload.now c.args.last c.args.counts new)
-    (record {
-      answers = rw (c.count-counted-2.ensures, c.acknowledge-length.ensures.answers);
-      replied = c.acknowledge-length.ensures.replied;
-      handed_out = c.put.ensures;
-    })
+    rw c.counted-2.ensures
+    (closes_new c.args.sequence c.args.payload.now c.args.state.last c.args.state.counts _ c.args.reply.now c.args.packet.now _ _ c.acknowledge-length.ensures
+    (sym c.repeated.ensures ∙ c.if-repeated.false) c.put.ensures)

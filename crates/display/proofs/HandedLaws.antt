@@ -1,5 +1,6 @@
 -- A new packet fits the packet buffer of a call that was not refused: it is the payload of content of at most 387 bytes, and no
 -- other answer brings a packet. So the part of the buffer that the board reads is the packet.
+use Rattle.std.proofs.Common.{Option}
 use mathlib.Core.Path.{◌≡◌, refl, sym, ap, ◌∙◌}
 use mathlib.Core.Bool.{Bool, true, false, cond}
 use mathlib.Core.List.{List}
@@ -23,7 +24,6 @@ use Rattle.link.specs.declared.counts.Counts.{Counts}
 use Rattle.link.specs.declared.reader.Ended.{Ended}
 use Rattle.link.specs.declared.reader.Ended.TheVariants as ends
 use Rattle.link.specs.declared.receiver.Answer.TheVariants as says
-use Rattle.link.specs.declared.receiver.Last.{Last}
 use Rattle.link.specs.declared.receiver.Link.{Link}
 use Rattle.link.proofs.ReceivingLaws.{short_reply, short_packet, room_for_both}
 use Rattle.link.proofs.WalkLaws.{walk_length}
@@ -38,17 +38,17 @@ pub record Handed (packet : List ℕ) (n limit : ℕ) : Type 0 where
 abbrev no_packet : Outcome → Type 0
 no_packet o = (r n : ℕ) → o.answer ≡ says.New r n → ⊥
 
-refused_none : (number place : ℕ) (previous : Last) (before : Counts) → no_packet (refused_frame number place previous before)
+refused_none : (number place : ℕ) (previous : Option ℕ) (before : Counts) → no_packet (refused_frame number place previous before)
 refused_none number place previous before r n e = impossible cc
 
-heard_none : (sequence size : ℕ) (previous : Last) (before : Counts) → no_packet (acknowledgement_frame sequence size previous before)
+heard_none : (sequence size : ℕ) (previous : Option ℕ) (before : Counts) → no_packet (acknowledgement_frame sequence size previous before)
 heard_none sequence size previous before r n e = cases (eqb size 0) refl e
   where
     cases : (t : Bool) → eqb size 0 ≡ t → (acknowledgement_frame sequence size previous before).answer ≡ says.New r n → ⊥
     cases true f e = let told = rw f at e in impossible cc
     cases false f e = let told = rw f at e in impossible cc
 
-module _ (previous : Last) (before : Counts) (r n : ℕ) where
+module _ (previous : Option ℕ) (before : Counts) (r n : ℕ) where
   data_handed : (sequence : ℕ) (payload : List ℕ) → length payload ≤ payload_max → (data_frame sequence payload previous before).answer ≡ says.New r n
       → Handed (data_frame sequence payload previous before).packet n payload_max
   unfolding data_frame

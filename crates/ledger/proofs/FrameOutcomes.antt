@@ -1,5 +1,6 @@
 -- What a closed frame does to the link is settled by what the ledger takes the frame for, since both test the type in the same order; and
 -- what it means that a call's result and the ledger's effect agree.
+use Rattle.std.specs.Prelude as code
 use mathlib.Core.Path.{◌≡◌, refl}
 use mathlib.Core.Bool.{Bool, true, false, cond}
 use mathlib.Core.List.{List, map}
@@ -17,8 +18,6 @@ use Rattle.link.specs.Receiving.{call_of}
 use Rattle.link.specs.Walk.{Walk}
 use Rattle.link.specs.declared.counts.Counts as link_counts
 use Rattle.link.specs.declared.receiver.Answer.TheVariants as link_says
-use Rattle.link.specs.declared.receiver.Last.{Last}
-use Rattle.link.specs.declared.receiver.Last.TheVariants.{None, Sequence}
 use Rattle.sender.specs.declared.state.Sender.{Sender}
 use Rattle.display.specs.Display.{result_of}
 use Rattle.display.specs.declared.Received.{Received}
@@ -29,17 +28,17 @@ use Rattle.ledger.specs.Calls.{Effect}
 use Rattle.ledger.specs.Shown.{as_counts, as_sender, as_entry, as_answer}
 
 -- the link's last sequence
-abbrev pub as_last : Option ℕ → Last
-as_last none = None
-as_last (some sequence) = Sequence sequence
+abbrev pub as_last : Option ℕ → code.Option ℕ
+as_last none = code.None
+as_last (some sequence) = code.Some sequence
 
 -- what a frame does to the link, by what it is
-abbrev pub link_outcome : Frame → Last → link_counts.Counts → Outcome
+abbrev pub link_outcome : Frame → code.Option ℕ → link_counts.Counts → Outcome
 link_outcome (frames.refused n place) previous before = refused_frame n place previous before
 link_outcome (frames.acknowledgement sequence) previous before = acknowledgement_frame sequence 0 previous before
 link_outcome (frames.good sequence payload) previous before = data_frame sequence payload previous before
 
-pub read_by_type : (found : content.Read) (previous : Last) (before : link_counts.Counts)
+pub read_by_type : (found : content.Read) (previous : code.Option ℕ) (before : link_counts.Counts)
     → read_outcome found previous before ≡ link_outcome (by_type found) previous before
 read_by_type (content.refused n place) previous before = refl
 read_by_type (content.frame kind sequence payload) previous before =
@@ -53,7 +52,7 @@ read_by_type (content.frame kind sequence payload) previous before =
     cases false false v a b c = rw (a, b)
 
 -- each of them is an answer
-pub frame_answers : (f : Frame) (previous : Last) (before : link_counts.Counts) → (link_outcome f previous before).answer ≡ link_says.Nothing → ⊥
+pub frame_answers : (f : Frame) (previous : code.Option ℕ) (before : link_counts.Counts) → (link_outcome f previous before).answer ≡ link_says.Nothing → ⊥
 unfolding data_frame
 frame_answers (frames.refused n place) previous before e = impossible cc
 frame_answers (frames.acknowledgement sequence) previous before e = impossible cc

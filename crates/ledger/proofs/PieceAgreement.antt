@@ -1,5 +1,6 @@
 -- A piece keeps display and ledger in agreement, and gives what the ledger gives: the walk over it reaches the same run, and the frame
 -- that it closes does the same to both.
+use Rattle.std.specs.Prelude as code
 use mathlib.Core.Path.{◌≡◌, refl, ap, ap₂, ◌∙◌, subst⁻¹}
 use mathlib.Core.List.{List}
 use mathlib.Core.Option.{Option, some, none}
@@ -15,7 +16,6 @@ use Rattle.link.specs.Receiving.{short_call, walk_call}
 use Rattle.link.specs.Walk.{Walk, walk_of}
 use Rattle.link.specs.declared.counts.Counts as link_counts
 use Rattle.link.specs.declared.reader.Ended.{Ended}
-use Rattle.link.specs.declared.receiver.Last.{Last}
 use Rattle.link.proofs.OursLaws.{walk_within}
 use Rattle.link.proofs.ReceivingLaws.{room_for_both}
 use Rattle.link.proofs.WalkLaws.{walk_length}
@@ -63,17 +63,17 @@ same_left a b c d = cc
 
 -- what the frame that a walk closed does, if it closed one
 module _ {count : ℕ} (names : List (List ℕ)) (fit : Fits names) (l : Ledger) (board : Board) (shows₀ : Shows count names l.hives.entries board)
-    (last : Last) (counts : link_counts.Counts) (last_is₀ : last ≡ as_last l.line.sequence) (counts_are₀ : counts ≡ as_counts l.line.counts) where
+    (last : code.Option ℕ) (counts : link_counts.Counts) (last_is₀ : last ≡ as_last l.line.sequence) (counts_are₀ : counts ≡ as_counts l.line.counts) where
   walk_effects : (run frame : Option (List ℕ)) (w : Walk) → Reached run frame w
       → EffectsOf count names (as_sender l.sender) board w (close_of w.ended w.content last counts) (effect_of (with_run l run) frame)
   unfolding frame_of
   walk_effects run none w r =
       nothing_agrees names fit w (with_run l run) board shows₀ (close_of w.ended w.content last counts)
-      (ap₂ (λ (x : Last) (y : link_counts.Counts). close_of w.ended w.content x y) last_is₀ counts_are₀
+      (ap₂ (λ (x : code.Option ℕ) (y : link_counts.Counts). close_of w.ended w.content x y) last_is₀ counts_are₀
       ∙ ap (λ (end : Ended). close_of end w.content (as_last l.line.sequence) (as_counts l.line.counts)) r.0)
   walk_effects run (some frame) w r =
       subst⁻¹ (λ (o : Outcome). EffectsOf count names (as_sender l.sender) board w o (effect_of (with_run l run) (some frame)))
-      (ap₂ (λ (x : Last) (y : link_counts.Counts). close_of w.ended w.content x y) last_is₀ counts_are₀
+      (ap₂ (λ (x : code.Option ℕ) (y : link_counts.Counts). close_of w.ended w.content x y) last_is₀ counts_are₀
       ∙ r.1 (as_last l.line.sequence) (as_counts l.line.counts)
       ∙ read_by_type (read_run frame) (as_last l.line.sequence) (as_counts l.line.counts))
       (frame_agrees names fit w (with_run l run) board shows₀ (frame_of frame))

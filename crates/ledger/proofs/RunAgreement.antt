@@ -1,5 +1,6 @@
 -- The receiver's reader and the ledger's run agree: what the reader has seen since the last flag is what it sees in the run, so it closes
 -- what the run is.
+use Rattle.std.specs.Prelude as code
 use mathlib.Core.Path.{◌≡◌, refl, sym, ap, ◌∙◌}
 use mathlib.Core.List.{List, [], ◌∷◌, ◌++◌}
 use mathlib.Core.Option.{Option, some, none}
@@ -15,7 +16,6 @@ use Rattle.link.specs.declared.counts.Counts.{Counts}
 use Rattle.link.specs.declared.reader.Ended.TheVariants as ends
 use Rattle.link.specs.declared.reader.Phase.TheVariants.{Before}
 use Rattle.link.specs.declared.reader.Reader.{Reader}
-use Rattle.link.specs.declared.receiver.Last.{Last}
 use Rattle.link.proofs.SeenLaws.{seen_step, seen_ended, seen_close}
 use Rattle.link.proofs.FrameLaws.{run_close}
 use Rattle.ledger.specs.Frames.{joined, Taken}
@@ -28,7 +28,7 @@ Standing (some run) array reader = seen array reader ≡ seen_run nothing_seen r
 -- what the flag behind a frame's run does to the link
 abbrev pub Closes : List ℕ → Walk → Type 0
 Closes frame w =
-    (previous : Last) (before : Counts)
+    (previous : code.Option ℕ) (before : Counts)
     → close_of w.ended w.content previous before ≡ read_outcome (read_run frame) previous before
 
 abbrev pub Reached : Option (List ℕ) → Option (List ℕ) → Walk → Type 0
@@ -53,7 +53,7 @@ module _ (array : List ℕ) (reader : Reader) (whole : length array ≡ content_
   byte_standing (some run) b e =
       seen_step array reader whole within b ∙ ap (λ (s : Seen). seen_after s b) e ∙ sym (seen_snoc nothing_seen run b)
 
-  pub run_closes : (x : ℕ) (xs : List ℕ) → Standing (some (x ∷ xs)) array reader → (previous : Last) (before : Counts)
+  pub run_closes : (x : ℕ) (xs : List ℕ) → Standing (some (x ∷ xs)) array reader → (previous : code.Option ℕ) (before : Counts)
       → close_of (ended_by reader) array previous before ≡ read_outcome (read_run (x ∷ xs)) previous before
   run_closes x xs e previous before =
       seen_close array reader previous before whole within

@@ -1,4 +1,5 @@
 -- The receiver's walk over a piece and the ledger's agree byte by byte: each byte joins the run or closes the same frame in both.
+use Rattle.std.specs.Prelude as code
 use mathlib.Core.Path.{◌≡◌, refl, sym, ap, ◌∙◌}
 use mathlib.Core.Bool.{Bool, true, false}
 use mathlib.Core.List.{List, [], ◌∷◌}
@@ -21,8 +22,6 @@ use Rattle.link.specs.declared.reader.Ended.{Ended}
 use Rattle.link.specs.declared.reader.Ended.TheVariants as ends
 use Rattle.link.specs.declared.reader.Reader.{Reader}
 use Rattle.link.specs.Counts.{no_counts}
-use Rattle.link.specs.declared.receiver.Last.{Last}
-use Rattle.link.specs.declared.receiver.Last.TheVariants.{None}
 use Rattle.link.proofs.WalkLaws.{turn_flag, turn_byte}
 use Rattle.link.proofs.SeenLaws.{step_grows}
 use Rattle.ledger.specs.Frames.{joined, goes_on, closes, at_flag, turn, after_turn, taken, by_type}
@@ -41,7 +40,7 @@ module _ (array : List ℕ) (reader : Reader) (run : Option (List ℕ)) (b : ℕ
   going_on run₁ array₁ reader₁ e f rest = rw (e, f) rest
 
   closing : (frame : List ℕ) (end : Ended) → turn run b ≡ closes frame → turn_of array reader b ≡ walk.stops end
-      → ((previous : Last) (before : Counts) → close_of end array previous before ≡ read_outcome (read_run frame) previous before) → Turned
+      → ((previous : code.Option ℕ) (before : Counts) → close_of end array previous before ≡ read_outcome (read_run frame) previous before) → Turned
   closing frame end e f closed = rw (e, f) (record { counted = refl; reached = (behind_standing array, closed) })
 
 turn_at_flag : (run : Option (List ℕ)) (b : ℕ) → b ≡ flag_byte → turn run b ≡ at_flag run
@@ -78,9 +77,9 @@ module _ (array : List ℕ) (reader : Reader) (b : ℕ) (bs : List ℕ) (n : ℕ
 
       by_end : (end : Ended) → ended_by reader ≡ end → Turned array reader (some (x ∷ xs)) b bs n
       by_end ends.Nothing e =
-          let closed = run_closes array reader whole within x xs standing None no_counts in
-          let same = ap (λ (end₁ : Ended). close_of end₁ array None no_counts) (sym e) ∙ closed ∙ read_by_type (read_run (x ∷ xs)) None no_counts in
-          absurd (frame_answers (by_type (read_run (x ∷ xs))) None no_counts (sym (ap (λ (o : Outcome). o.answer) same)))
+          let closed = run_closes array reader whole within x xs standing code.None no_counts in
+          let same = ap (λ (end₁ : Ended). close_of end₁ array code.None no_counts) (sym e) ∙ closed ∙ read_by_type (read_run (x ∷ xs)) code.None no_counts in
+          absurd (frame_answers (by_type (read_run (x ∷ xs))) code.None no_counts (sym (ap (λ (o : Outcome). o.answer) same)))
       by_end (ends.Content k) e = stops (ends.Content k) e refl
       by_end (ends.Refused k place) e = stops (ends.Refused k place) e refl
 

@@ -1,6 +1,6 @@
 -- A frame at its closing flag, one law for each way through the code: what the tests on the way say of it settles the outcome.
 -- Nine bytes are room for its acknowledgement, of which at most three are escaped.
-use Rattle.std.proofs.Common.{◌≡◌, ℕ, ◌+◌, ◌-◌, ◌/◌, ◌%◌, ◌≤◌, Bool, true, false, eqb, List, [], ◌∷◌, length, take, drop, sym, refl, ap, ◌∙◌, arith, eq-eqb, ne_eqb}
+use Rattle.std.proofs.Common.{◌≡◌, ℕ, Option, Some, ◌+◌, ◌-◌, ◌/◌, ◌%◌, ◌≤◌, Bool, true, false, eqb, List, [], ◌∷◌, length, take, drop, sym, refl, ap, ◌∙◌, arith, eq-eqb, ne_eqb}
 use Rattle.refusals.specs.Numbers.{unknown_type}
 use Rattle.slices.proofs.Impossible.{impossible}
 use Rattle.slices.specs.Each.{each}
@@ -18,8 +18,6 @@ use Rattle.frame.proofs.ContentLaws.{answer_refused, answer_frame, payload_part,
 use Rattle.frame.proofs.WriteLaws.{length_framed, content_room, payload_allowed}
 use Rattle.link.specs.declared.counts.Counts.{Counts}
 use Rattle.link.specs.declared.counts.Event.TheVariants as event
-use Rattle.link.specs.declared.receiver.Last.{Last}
-use Rattle.link.specs.declared.receiver.Last.TheVariants.{Sequence}
 use Rattle.link.specs.declared.receiver.Answer.TheVariants as says
 use Rattle.link.specs.declared.closing.Closed.{Closed}
 use Rattle.link.specs.Counts.{count_of}
@@ -66,7 +64,7 @@ module _ (q : ℕ) (reply : List ℕ) (answer : declared.Written) (exit : List �
       impossible cc
 
 -- a data frame, by whether it came again
-module _ (q : ℕ) (payload : List ℕ) (previous : Last) (before : Counts) (size : ℕ) (reply packet reply₁ packet₁ : List ℕ)
+module _ (q : ℕ) (payload : List ℕ) (previous : Option ℕ) (before : Counts) (size : ℕ) (reply packet reply₁ packet₁ : List ℕ)
     (told : AcknowledgesAs q reply size reply₁) where
   pub closes_again : repeats previous q ≡ true
       → ClosesAs (data_frame q payload previous before) reply packet
@@ -76,17 +74,17 @@ module _ (q : ℕ) (payload : List ℕ) (previous : Last) (before : Counts) (siz
 
   pub closes_new : repeats previous q ≡ false → packet₁ ≡ put_at packet 0 payload
       → ClosesAs (data_frame q payload previous before) reply packet
-      (record { state = record { last = Sequence q; counts = count_of event.New before }; answer = says.New size (length payload) }) reply₁ packet₁
+      (record { state = record { last = Some q; counts = count_of event.New before }; answer = says.New size (length payload) }) reply₁ packet₁
   unfolding data_frame
   closes_new e put = rw (e, told.answers) (record { answers = refl; replied = told.replied; handed_out = put })
 
 -- a frame that is refused puts nothing
-pub refuses : (o : Outcome) (n place : ℕ) (previous : Last) (before : Counts) (result : Closed) (reply packet : List ℕ)
+pub refuses : (o : Outcome) (n place : ℕ) (previous : Option ℕ) (before : Counts) (result : Closed) (reply packet : List ℕ)
     → o ≡ refused_frame n place previous before → result ≡ closed_by (refused_frame n place previous before) → ClosesAs o reply packet result reply packet
 refuses o n place previous before result reply packet e told = rw e (record { answers = told; replied = refl; handed_out = refl })
 
 -- an acknowledgement that came in puts nothing
-pub heard : (q size : ℕ) (previous : Last) (before : Counts) (reply packet : List ℕ)
+pub heard : (q size : ℕ) (previous : Option ℕ) (before : Counts) (reply packet : List ℕ)
     → ClosesAs (acknowledgement_frame q size previous before) reply packet (closed_by (acknowledgement_frame q size previous before)) reply packet
 heard q size previous before reply packet = cases (eqb size 0) refl
   where
@@ -100,7 +98,7 @@ pub payload_ends : (c : List ℕ) (kind q n : ℕ) → answer.Frame kind q n ≡
 payload_ends c kind q n e = let found = answer_frame c kind q n e in omega (arith, found.whole, found.size)
 
 -- whole content, by what it was judged to be and by its type
-module _ (c : List ℕ) (previous : Last) (before : Counts) (reply packet : List ℕ) (result : Closed) where
+module _ (c : List ℕ) (previous : Option ℕ) (before : Counts) (reply packet : List ℕ) (result : Closed) where
   pub closes_refused : (n place : ℕ) → answer.Refused n place ≡ read_answer (judged c) → result ≡ closed_by (refused_frame n place previous before)
       → ClosesAs (frame_outcome c previous before) reply packet result reply packet
   unfolding frame_outcome

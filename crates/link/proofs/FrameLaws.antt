@@ -1,6 +1,6 @@
 -- The flag behind a run that held bytes does what 01 says of the run: unstuffed from the left and tested by 1 to 6. One byte is
 -- enough for a frame.
-use Rattle.std.proofs.Common.{◌≡◌, ℕ, ◌<◌, ◌≤◌, Bool, true, false, cond, ltb, List, [], ◌∷◌, ◌++◌, length, sym, refl, ap, ◌∙◌, arith, length-append, take_all, ne_eqb}
+use Rattle.std.proofs.Common.{◌≡◌, ℕ, Option, ◌<◌, ◌≤◌, Bool, true, false, cond, ltb, List, [], ◌∷◌, ◌++◌, length, sym, refl, ap, ◌∙◌, arith, length-append, take_all, ne_eqb}
 use mathlib.Core.Path.{subst⁻¹}
 use Rattle.frame.specs.Stuffing.{content_max, plain, escaped, Meaning, escapes_next, stands_for, faulty, meaning, Unstuffed, unstuff_from, unstuff}
 use Rattle.frame.specs.Reading.{judged_content, read_run}
@@ -8,7 +8,6 @@ use Rattle.frame.proofs.FollowLaws.{prefixed_none}
 use Rattle.link.specs.declared.counts.Counts.{Counts}
 use Rattle.link.specs.declared.reader.Phase.{Phase}
 use Rattle.link.specs.declared.reader.Phase.TheVariants.{Before, Plain, Escaped, BadFraming, LongContent}
-use Rattle.link.specs.declared.receiver.Last.{Last}
 use Rattle.link.specs.Reader.{next_place, step_of}
 use Rattle.link.specs.Closing.{read_outcome, frame_outcome}
 use Rattle.link.specs.Seen.{Seen, nothing_seen, seen_after, seen_run, close_seen}
@@ -65,7 +64,7 @@ run_holds s b (b₁ ∷ bs) h =
     run_holds next b₁ bs (holds_within next.phase (length next.bytes) (after_holds s.phase s.bytes s.place b h))
 
 -- what the flag does to a reader that holds a frame
-close_held : (phase : Phase) (bytes : List ℕ) (place : ℕ) (previous : Last) (before : Counts) → Holds phase (length bytes)
+close_held : (phase : Phase) (bytes : List ℕ) (place : ℕ) (previous : Option ℕ) (before : Counts) → Holds phase (length bytes)
     → close_seen (record { phase = phase; bytes = bytes; place = place }) previous before ≡ read_outcome (judged_content (unstuffed_in phase bytes place)) previous before
 unfolding frame_outcome
 close_held Before bytes place previous before h = absurd h
@@ -78,7 +77,7 @@ close_held BadFraming bytes place previous before h = refl
 close_held LongContent bytes place previous before h = refl
 
 -- 01, The ledger: a run that held bytes is a frame, unstuffed from the left and tested by 1 to 6
-pub run_close : (b : ℕ) (bs : List ℕ) (previous : Last) (before : Counts)
+pub run_close : (b : ℕ) (bs : List ℕ) (previous : Option ℕ) (before : Counts)
     → close_seen (seen_run nothing_seen (b ∷ bs)) previous before ≡ read_outcome (read_run (b ∷ bs)) previous before
 unfolding read_run unstuff
 run_close b bs previous before =

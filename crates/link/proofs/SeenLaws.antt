@@ -1,5 +1,5 @@
 -- What a byte makes of the reader depends on what was seen before, and on the byte, alone.
-use Rattle.std.proofs.Common.{◌≡◌, ℕ, ◌<◌, ◌≤◌, Bool, true, false, cond, eqb, ltb, List, ◌++◌, length, take, sym, refl, ap, ◌∙◌, append-nil, arith, length-take, length-take-le, take_all, take-suc-set, ltb-false, ltb-true}
+use Rattle.std.proofs.Common.{◌≡◌, ℕ, Option, ◌<◌, ◌≤◌, Bool, true, false, cond, eqb, ltb, List, ◌++◌, length, take, sym, refl, ap, ◌∙◌, append-nil, arith, length-take, length-take-le, take_all, take-suc-set, ltb-false, ltb-true}
 use Rattle.frame.specs.Stuffing.{content_max, plain, escaped, Meaning, escapes_next, stands_for, faulty, meaning}
 use Rattle.link.specs.declared.counts.Counts.{Counts}
 use Rattle.link.specs.declared.reader.Phase.{Phase}
@@ -7,7 +7,6 @@ use Rattle.link.specs.declared.reader.Phase.TheVariants.{Before, Plain, Escaped,
 use Rattle.link.specs.declared.reader.Reader.{Reader}
 use Rattle.link.specs.declared.reader.Ended.{Ended}
 use Rattle.link.specs.declared.reader.Ended.TheVariants as ends
-use Rattle.link.specs.declared.receiver.Last.{Last}
 use Rattle.link.specs.Reader.{next_place, ended_in, ended_by, Step, turned, store_of, step_by, step_in, step_of, content_after}
 use Rattle.link.specs.Closing.{close_of}
 use Rattle.link.specs.Seen.{seen, reader_of, seen_after, close_seen}
@@ -66,7 +65,7 @@ module _ (content : List ℕ) (reader : Reader) (whole : length content ≡ cont
   seen_ended = sym (ap ended_by reader_seen)
 
 -- and so does what the flag behind it does
-module _ (content : List ℕ) (held place : ℕ) (previous : Last) (before : Counts) where
+module _ (content : List ℕ) (held place : ℕ) (previous : Option ℕ) (before : Counts) where
   close_first : (phase : Phase)
       → close_of (ended_in phase held place) content previous before ≡ close_of (ended_in phase held place) (take held content) previous before
   close_first Before = refl
@@ -84,7 +83,7 @@ module _ (content : List ℕ) (held place : ℕ) (previous : Last) (before : Cou
   close_first BadFraming = refl
   close_first LongContent = refl
 
-pub seen_close : (content : List ℕ) (reader : Reader) (previous : Last) (before : Counts) → length content ≡ content_max → reader.length ≤ content_max
+pub seen_close : (content : List ℕ) (reader : Reader) (previous : Option ℕ) (before : Counts) → length content ≡ content_max → reader.length ≤ content_max
     → close_of (ended_by reader) content previous before ≡ close_seen (seen content reader) previous before
 seen_close content reader previous before whole within =
     close_first content reader.length reader.place previous before reader.phase

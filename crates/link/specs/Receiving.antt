@@ -1,12 +1,11 @@
 -- 01, The receiver: a call takes a piece, with a reply buffer and a packet buffer lent beside it.
-use Rattle.std.specs.Prelude.{◌≡◌, ℕ, cond, List, [], replicate, nat_lt}
+use Rattle.std.specs.Prelude.{◌≡◌, ℕ, None, cond, List, [], replicate, nat_lt}
 use Rattle.refusals.specs.Numbers.{short_output}
 use Rattle.slices.specs.Put.{put_at}
 use Rattle.frame.specs.Stuffing.{content_max}
 use Rattle.frame.specs.Content.{payload_max, no_place}
 use Rattle.link.specs.declared.counts.Event.TheVariants as event
 use Rattle.link.specs.declared.reader.Phase.TheVariants.{Before}
-use Rattle.link.specs.declared.receiver.Last.TheVariants.{None}
 use Rattle.link.specs.declared.receiver.Answer.{Answer}
 use Rattle.link.specs.declared.receiver.Answer.TheVariants as says
 use Rattle.link.specs.declared.receiver.Link.{Link}

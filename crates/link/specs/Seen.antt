@@ -1,11 +1,10 @@
 -- What a reader has seen since the last flag. The receiver goes by this alone: bytes of the array beyond it never count.
-use Rattle.std.specs.Prelude.{◌≡◌, ℕ, ◌≤◌, List, [], ◌∷◌, ◌++◌, length, take}
+use Rattle.std.specs.Prelude.{◌≡◌, ℕ, Option, ◌≤◌, List, [], ◌∷◌, ◌++◌, length, take}
 use Rattle.frame.specs.Stuffing.{content_max}
 use Rattle.link.specs.declared.counts.Counts.{Counts}
 use Rattle.link.specs.declared.reader.Phase.{Phase}
 use Rattle.link.specs.declared.reader.Phase.TheVariants.{Plain}
 use Rattle.link.specs.declared.reader.Reader.{Reader}
-use Rattle.link.specs.declared.receiver.Last.{Last}
 use Rattle.link.specs.declared.receiver.Link.{Link}
 use Rattle.link.specs.Reader.{ended_by, step_of}
 use Rattle.link.specs.Closing.{Outcome, close_of}
@@ -41,7 +40,7 @@ seen_run s [] = s
 seen_run s (b ∷ bs) = seen_run (seen_after s b) bs
 
 -- what the flag behind it does
-abbrev pub close_seen : Seen → Last → Counts → Outcome
+abbrev pub close_seen : Seen → Option ℕ → Counts → Outcome
 close_seen s previous before = close_of (ended_by (reader_of s)) s.bytes previous before
 
 -- a link state that a fresh start or our calls gave

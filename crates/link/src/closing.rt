@@ -7,7 +7,7 @@ ghost use Rattle.link.specs.Steps.{closed_by, ClosesAs};
 use crate::counts::{Counts, Event, count};
 use crate::data::take_data;
 use crate::reader::Ended;
-use crate::receiver::{Answer, Last};
+use crate::receiver::Answer;
 use frame::content::{FrameRead, judge};
 use frame::{ACKNOWLEDGEMENT, DATA, HEADER_SIZE, NO_PLACE};
 use refusals::{LOADED_ACKNOWLEDGEMENT, UNKNOWN_TYPE};
@@ -15,7 +15,7 @@ use refusals::{LOADED_ACKNOWLEDGEMENT, UNKNOWN_TYPE};
 // What a frame goes by and leaves behind: the sequence of the last data frame, and the counts.
 #[derive(Clone, Copy)]
 pub struct State {
-    pub last: Last,
+    pub last: Option<u8>,
     pub counts: Counts,
 }
 

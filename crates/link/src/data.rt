@@ -5,7 +5,7 @@ ghost use Rattle.link.specs.Steps.{ClosesAs, AcknowledgesAs};
 
 use crate::closing::{Closed, State, counted};
 use crate::counts::Event;
-use crate::receiver::{Answer, Last};
+use crate::receiver::Answer;
 use frame::ACKNOWLEDGEMENT;
 use frame::writer::{Written, write_frame};
 
@@ -30,7 +30,7 @@ pub(crate) fn take_data(
     slices::put(packet, 0, payload);
     Closed {
         state: State {
-            last: Last::Sequence(sequence),
+            last: Some(sequence),
             ..counted(state, Event::New)
         },
         answer: Answer::New {
@@ -41,18 +41,10 @@ pub(crate) fn take_data(
 }
 
 // Whether a data frame came again: its sequence is that of the last one, and not 0.
-fn repeated(last: Last, sequence: u8) -> bool
+fn repeated(last: Option<u8>, sequence: u8) -> bool
     ensures { result ≡ repeats last sequence }
 {
-    match last {
-        Last::None => false,
-        Last::Sequence(before) => {
-            if sequence == 0 {
-                return false;
-            }
-            sequence == before
-        }
-    }
+    sequence != 0 && last == Some(sequence)
 }
 
 // Puts the acknowledgement of a sequence at the start of `reply`, and answers its length.

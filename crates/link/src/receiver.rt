@@ -13,20 +13,13 @@ use refusals::SHORT_OUTPUT;
 // An acknowledgement has six bytes, of which three may be escaped.
 pub const REPLY_ROOM: usize = 9;
 
-// The sequence of the last data frame.
-#[derive(Clone, Copy)]
-pub enum Last {
-    None,
-    Sequence(u8),
-}
-
 // The link's state between two pieces: the content since the last flag is the first bytes of
-// `content`, as many as the reader says.
+// `content`, as many as the reader says, and `last` is the sequence of the last data frame.
 #[derive(Clone, Copy)]
 pub struct Link {
     pub content: [u8; CONTENT_MAX],
     pub reader: Reader,
-    pub last: Last,
+    pub last: Option<u8>,
     pub counts: Counts,
 }
 
@@ -60,7 +53,7 @@ pub fn fresh() -> Link
             length: 0,
             place: 0,
         },
-        last: Last::None,
+        last: None,
         counts: none(),
     }
 }

@@ -1,5 +1,6 @@
 -- 02, C-13: what a piece does to the sender, and what a report of a drop says. An acknowledgement that was heard frees the held frame of its
 -- sequence, at once; any other, and every other answer, changes nothing in the sender.
+use Rattle.std.proofs.Common.{Option, Some, None}
 use mathlib.Core.Path.{◌≡◌, refl, sym, ap, ◌∙◌}
 use mathlib.Core.Bool.{Bool, true, false, cond}
 use mathlib.Core.List.{List}
@@ -21,7 +22,6 @@ use Rattle.sender.specs.State.{kept, repeated, freed, acknowledged_from, acknowl
 use Rattle.sender.specs.Events.{Given, quiet, goes_out, repeats_max, sent_again, timeout_from, timeout_of}
 use Rattle.sender.specs.declared.state.Answer.TheVariants.{Repeated, Dropped}
 use Rattle.sender.specs.declared.state.Held.{Held}
-use Rattle.sender.specs.declared.state.Held.TheVariants.{Nothing, Frame}
 use Rattle.sender.specs.declared.state.Sender.{Sender}
 use Rattle.display.specs.Display.{result_of, receive_piece}
 use Rattle.display.specs.Sending.{with_sender}
@@ -31,6 +31,10 @@ use Rattle.display.specs.declared.Display.{Display}
 use Rattle.display.specs.declared.sending.Outgoing.{Outgoing}
 use Rattle.display.specs.declared.Received.{Received}
 use Rattle.ledger.proofs.Chain.{Receives, TimesOut, received, timed_out}
+
+-- what is held of a frame
+abbrev pub held_frame : ℕ → ℕ → Option Held
+held_frame sequence repeats = Some (record { sequence = sequence; repeats = repeats })
 
 -- the sender behind an answer
 abbrev pub sender_by : display_answer.Answer → Sender → Sender
@@ -57,58 +61,58 @@ module _ {d : Display} {bytes reply packet reply₁ packet₁ : List ℕ} {resul
       rw (received r).answers (sender_answered call.answer d.sender d.board call)
 
   -- THEOREM. An acknowledgement of its sequence frees the held frame at once.
-  pub its_acknowledgement_frees : (sequence repeats : ℕ) → result.answer ≡ says.Heard sequence → d.sender.held ≡ Frame sequence repeats
+  pub its_acknowledgement_frees : (sequence repeats : ℕ) → result.answer ≡ says.Heard sequence → d.sender.held ≡ held_frame sequence repeats
       → result.display.sender ≡ freed d.sender
   its_acknowledgement_frees sequence repeats told waits =
       piece_and_sender
       ∙ ap (λ (a : display_answer.Answer). sender_by a d.sender) told
-      ∙ ap (λ (h : Held). acknowledged_from h d.sender sequence) waits
+      ∙ ap (λ (h : Option Held). acknowledged_from h d.sender sequence) waits
       ∙ ap (λ (t : Bool). cond t (freed d.sender) d.sender) (eq-eqb sequence sequence refl)
 
   -- THEOREM. Any other changes nothing in the sender.
-  pub other_acknowledgement_frees_none : (sequence : ℕ) → result.answer ≡ says.Heard sequence → ((repeats : ℕ) → d.sender.held ≡ Frame sequence repeats → ⊥)
+  pub other_acknowledgement_frees_none : (sequence : ℕ) → result.answer ≡ says.Heard sequence → ((repeats : ℕ) → d.sender.held ≡ held_frame sequence repeats → ⊥)
       → result.display.sender ≡ d.sender
   other_acknowledgement_frees_none sequence told other =
       piece_and_sender ∙ ap (λ (a : display_answer.Answer). sender_by a d.sender) told ∙ by_held d.sender.held refl
     where
-      by_sequence : (waiting repeats : ℕ) → d.sender.held ≡ Frame waiting repeats → (t : Bool) → eqb sequence waiting ≡ t
+      by_sequence : (waiting repeats : ℕ) → d.sender.held ≡ held_frame waiting repeats → (t : Bool) → eqb sequence waiting ≡ t
           → cond t (freed d.sender) d.sender ≡ d.sender
-      by_sequence waiting repeats e true f = absurd (other repeats (e ∙ ap (λ (n : ℕ). Frame n repeats) (sym (eqb-true sequence waiting f))))
+      by_sequence waiting repeats e true f = absurd (other repeats (e ∙ ap (λ (n : ℕ). held_frame n repeats) (sym (eqb-true sequence waiting f))))
       by_sequence waiting repeats e false f = refl
 
-      by_held : (h : Held) → d.sender.held ≡ h → acknowledged_from h d.sender sequence ≡ d.sender
-      by_held Nothing e = refl
-      by_held (Frame waiting repeats) e = by_sequence waiting repeats e (eqb sequence waiting) refl
+      by_held : (h : Option Held) → d.sender.held ≡ h → acknowledged_from h d.sender sequence ≡ d.sender
+      by_held None e = refl
+      by_held (Some held) e = by_sequence held.sequence held.repeats e (eqb sequence held.sequence) refl
 
 -- what a timeout reported as dropped was held, after two repeats or more, and is held no longer; the output is as it was
 pub record WasHeld (before : Display) (sequence : ℕ) (output : List ℕ) (result : Outgoing) (output₁ : List ℕ) : Type 0 where
   pub repeats : ℕ
   pub twice : 2 ≤ repeats
-  pub waited : before.sender.held ≡ Frame sequence repeats
+  pub waited : before.sender.held ≡ held_frame sequence repeats
   pub frees : result.display ≡ with_sender before (freed before.sender)
   pub output_kept : output₁ ≡ output
 
-record Dropping (s : Sender) (sequence : ℕ) (h : Held) (given : Given) : Type 0 where
+record Dropping (s : Sender) (sequence : ℕ) (h : Option Held) (given : Given) : Type 0 where
   repeats : ℕ
   twice : 2 ≤ repeats
-  waited : h ≡ Frame sequence repeats
+  waited : h ≡ held_frame sequence repeats
   is : given ≡ quiet (freed s) (Dropped sequence)
 
 -- a timeout, by what is held: nothing and a repeat are answered otherwise
-dropped_given : (s : Sender) (room sequence : ℕ) (h : Held) → (timeout_from h s room).outcome.answer ≡ Dropped sequence → Dropping s sequence h (timeout_from h s room)
-dropped_given s room sequence Nothing e = impossible cc
-dropped_given s room sequence (Frame waiting repeats) e = by_repeats (ltb repeats repeats_max) refl e
+dropped_given : (s : Sender) (room sequence : ℕ) (h : Option Held) → (timeout_from h s room).outcome.answer ≡ Dropped sequence → Dropping s sequence h (timeout_from h s room)
+dropped_given s room sequence None e = impossible cc
+dropped_given s room sequence (Some held) e = by_repeats held.sequence held.repeats (ltb held.repeats repeats_max) refl e
   where
-    again : (o : Output) → (goes_out o s (repeated s waiting repeats) (Repeated waiting)).outcome.answer ≡ Dropped sequence → ⊥
-    again (writer.written bytes) e = impossible cc
-    again (writer.refused n) e = impossible cc
+    again : (waiting repeats : ℕ) (o : Output) → (goes_out o s (repeated s waiting repeats) (Repeated waiting)).outcome.answer ≡ Dropped sequence → ⊥
+    again waiting repeats (writer.written bytes) e = impossible cc
+    again waiting repeats (writer.refused n) e = impossible cc
 
-    by_repeats : (t : Bool) → ltb repeats repeats_max ≡ t → (cond t (sent_again s waiting repeats room) (quiet (freed s) (Dropped waiting))).outcome.answer ≡ Dropped sequence
-        → Dropping s sequence (Frame waiting repeats) (cond t (sent_again s waiting repeats room) (quiet (freed s) (Dropped waiting)))
-    by_repeats true f e = absurd (again (write_frame room data_type waiting (kept s.payload)) e)
-    by_repeats false f e =
+    by_repeats : (waiting repeats : ℕ) (t : Bool) → ltb repeats repeats_max ≡ t → (cond t (sent_again s waiting repeats room) (quiet (freed s) (Dropped waiting))).outcome.answer ≡ Dropped sequence
+        → Dropping s sequence (held_frame waiting repeats) (cond t (sent_again s waiting repeats room) (quiet (freed s) (Dropped waiting)))
+    by_repeats waiting repeats true f e = absurd (again waiting repeats (write_frame room data_type waiting (kept s.payload)) e)
+    by_repeats waiting repeats false f e =
         let same : waiting ≡ sequence = cc in
-        record { repeats = repeats; twice = ltb-false repeats repeats_max f; waited = ap (λ (n : ℕ). Frame n repeats) same; is = ap (λ (n : ℕ). quiet (freed s) (Dropped n)) same }
+        record { repeats = repeats; twice = ltb-false repeats repeats_max f; waited = ap (λ (n : ℕ). held_frame n repeats) same; is = ap (λ (n : ℕ). quiet (freed s) (Dropped n)) same }
 
 -- THEOREM. Whatever the display, a frame that a timeout reports as dropped is the one that was held.
 pub dropped_was_held : {d : Display} {output output₁ : List ℕ} {result : Outgoing} → TimesOut d output result output₁ → (sequence : ℕ)

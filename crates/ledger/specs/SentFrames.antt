@@ -1,11 +1,10 @@
 -- 02, C-13, in the owner's words: what became of a frame that was sent, how often it was sent again, and which sequences were sent. All of it
 -- is read off what the calls answered and left in the output.
-use Rattle.std.specs.Prelude.{ℕ, zero, suc, ◌%◌, ◌≤◌, ◌≡◌, cond, List, [], ◌∷◌, ◌++◌, eqb, take}
+use Rattle.std.specs.Prelude.{ℕ, Some, zero, suc, ◌%◌, ◌≤◌, ◌≡◌, cond, List, [], ◌∷◌, ◌++◌, eqb, take}
 use Rattle.sender.specs.State.{kept}
 use Rattle.sender.specs.declared.state.Answer as sender_answer
 use Rattle.sender.specs.declared.state.Answer.TheVariants as sender_says
 use Rattle.sender.specs.declared.state.Answer.TheVariants.{Sent, Repeated, Dropped}
-use Rattle.sender.specs.declared.state.Held.TheVariants as sender_held
 use Rattle.sender.specs.declared.state.Sender as sender
 use Rattle.display.specs.declared.Answer.{Answer}
 use Rattle.display.specs.declared.Answer.TheVariants.{Nothing, Refused, Heard, Again, New}
@@ -67,7 +66,7 @@ reports_in sequence (dropped repeats) = sequence ∷ []
 -- what each status says of the sender: it holds the frame, so often sent again; or the frame was acknowledged after at most two repeats; or
 -- it was dropped after two
 abbrev pub AccountedFor : ℕ → List ℕ → Status → sender.Sender → Type 0
-AccountedFor sequence payload (held repeats) s = (repeats ≤ 2) × ((s.held ≡ sender_held.Frame sequence repeats) × (kept s.payload ≡ payload))
+AccountedFor sequence payload (held repeats) s = (repeats ≤ 2) × ((s.held ≡ Some (record { sequence = sequence; repeats = repeats })) × (kept s.payload ≡ payload))
 AccountedFor sequence payload (acknowledged repeats) s = repeats ≤ 2
 AccountedFor sequence payload (dropped repeats) s = repeats ≡ 2
 

@@ -1,6 +1,9 @@
 -- How the code says what the ledger says: each count modulo 65,536, the rows as they are shown, the answers as enums.
+use Rattle.std.specs.Prelude as code
 use Rattle.std.specs.Prelude.{ℕ, ◌%◌, List, [], map, length, get_or}
 use Rattle.std.proofs.Math.Option.{Option, some, none}
+use Rattle.slices.specs.declared.fixed_bytes.FixedBytes.{FixedBytes}
+use Rattle.frame.specs.Content.{payload_max}
 use Rattle.rows.specs.Entries as shown
 use Rattle.rows.specs.Names.{place_of}
 use Rattle.rows.specs.Rows.{fresh_row}
@@ -15,7 +18,6 @@ use Rattle.link.specs.declared.counts.Counts as link_counts
 use Rattle.sender.specs.State.{payload_of, no_payload}
 use Rattle.sender.specs.declared.state.Answer as sender_answer
 use Rattle.sender.specs.declared.state.Held as sender_held
-use Rattle.sender.specs.declared.state.Payload.{Payload}
 use Rattle.sender.specs.declared.state.Sender as sender
 use Rattle.display.specs.declared.Answer as display_answer
 use Rattle.ledger.specs.Ledger.{Counts, Held, Sender, Entry, Row, never, current, silent, row_of}
@@ -43,11 +45,11 @@ as_state (current value age) = Current value age
 as_state silent = Silent
 
 -- 02, C-13: what the sender holds; where it holds nothing its room is empty
-abbrev pub as_held : Option Held → sender_held.Held
-as_held none = sender_held.TheVariants.Nothing
-as_held (some frame) = sender_held.TheVariants.Frame frame.sequence frame.repeats
+abbrev pub as_held : Option Held → code.Option sender_held.Held
+as_held none = code.None
+as_held (some frame) = code.Some (record { sequence = frame.sequence; repeats = frame.repeats })
 
-abbrev pub as_payload : Option Held → Payload
+abbrev pub as_payload : Option Held → FixedBytes payload_max
 as_payload none = no_payload
 as_payload (some frame) = payload_of frame.payload
 

@@ -1,5 +1,5 @@
 -- 02, C-13: what a send and a timeout give, and their refusals in their order.
-use Rattle.std.specs.Prelude.{ℕ, ◌≡◌, cond, List, [], ltb, length}
+use Rattle.std.specs.Prelude.{ℕ, Option, Some, None, ◌≡◌, cond, List, [], ltb, length}
 use Rattle.refusals.specs.Numbers.{frame_waiting}
 use Rattle.slices.specs.Put.{put_at}
 use Rattle.slices.specs.Written as writer
@@ -8,7 +8,6 @@ use Rattle.frame.specs.Content.{data_type}
 use Rattle.frame.specs.Writing.{write_frame}
 use Rattle.sender.specs.State.{kept, holding, repeated, freed}
 use Rattle.sender.specs.declared.state.Held.{Held}
-use Rattle.sender.specs.declared.state.Held.TheVariants as held
 use Rattle.sender.specs.declared.state.Sender.{Sender}
 use Rattle.sender.specs.declared.state.Answer.{Answer}
 use Rattle.sender.specs.declared.state.Answer.TheVariants.{Nothing, Refused, Sent, Repeated, Dropped}
@@ -33,9 +32,9 @@ abbrev pub sent_next : Sender → List ℕ → ℕ → Given
 sent_next s payload room = goes_out (write_frame room data_type s.next payload) s (holding s payload) (Sent s.next)
 
 -- a send: 25, a frame is still waiting, before 8 and 7
-abbrev pub send_from : Held → Sender → List ℕ → ℕ → Given
-send_from (held.Frame sequence repeats) s payload room = quiet s (Refused frame_waiting)
-send_from held.Nothing s payload room = sent_next s payload room
+abbrev pub send_from : Option Held → Sender → List ℕ → ℕ → Given
+send_from (Some held) s payload room = quiet s (Refused frame_waiting)
+send_from None s payload room = sent_next s payload room
 
 unfoldable pub send_of : Sender → List ℕ → ℕ → Given
 send_of s payload room = send_from s.held s payload room
@@ -49,10 +48,10 @@ sent_again s sequence repeats room =
     goes_out (write_frame room data_type sequence (kept s.payload)) s (repeated s sequence repeats) (Repeated sequence)
 
 -- the third drops and reports it; with nothing held it changes nothing
-abbrev pub timeout_from : Held → Sender → ℕ → Given
-timeout_from held.Nothing s room = quiet s Nothing
-timeout_from (held.Frame sequence repeats) s room =
-    cond (ltb repeats repeats_max) (sent_again s sequence repeats room) (quiet (freed s) (Dropped sequence))
+abbrev pub timeout_from : Option Held → Sender → ℕ → Given
+timeout_from None s room = quiet s Nothing
+timeout_from (Some held) s room =
+    cond (ltb held.repeats repeats_max) (sent_again s held.sequence held.repeats room) (quiet (freed s) (Dropped held.sequence))
 
 unfoldable pub timeout_of : Sender → ℕ → Given
 timeout_of s room = timeout_from s.held s room

@@ -13,14 +13,17 @@ const REPEATS_MAX: u8 = 2;
 
 // Sends a payload in a data frame of the next sequence, and holds it. While a frame is still waiting
 // this is refusal 25, for a payload over 383 bytes 8, for an output too short for the frame 7.
+#[tactic(auto, unfolding(crate::specs::Events::send_of))]
 pub fn send(sender: Sender, payload: &[u8], output: &mut [u8]) -> Outcome
     ensures { SendsAs (send_of sender payload.now (length output.old)) output.old result output.new }
 {
-    let held = sender.held;
-    match held {
-        Held::Frame { .. } => answer(sender, Answer::Refused(FRAME_WAITING)),
-        Held::Nothing => send_next(sender, payload, output),
+    if sender.held.is_some() {
+        return Outcome {
+            sender,
+            answer: Answer::Refused(FRAME_WAITING),
+        };
     }
+    send_next(sender, payload, output)
 }
 
 // The frame of the next sequence.
@@ -29,56 +32,60 @@ fn send_next(sender: Sender, payload: &[u8], output: &mut [u8]) -> Outcome
 {
     let sequence = sender.next;
     match write_frame(DATA, sequence, payload, output) {
-        Written::Refused(number) => answer(sender, Answer::Refused(number)),
-        Written::Length(length) => {
-            let behind = hold(sender, payload);
-            answer(behind, Answer::Sent { sequence, length })
-        }
+        Written::Refused(number) => Outcome {
+            sender,
+            answer: Answer::Refused(number),
+        },
+        Written::Length(length) => Outcome {
+            sender: hold(sender, payload),
+            answer: Answer::Sent { sequence, length },
+        },
     }
 }
 
 // No acknowledgement came in time: the held frame is sent again the first two times, where an output
 // too short for it is refusal 7; the third time it is dropped and reported. With nothing held nothing
 // happens.
+#[tactic(auto, unfolding(crate::specs::Events::timeout_of))]
 pub fn timeout(sender: Sender, output: &mut [u8]) -> Outcome
     ensures { SendsAs (timeout_of sender (length output.old)) output.old result output.new }
 {
-    let held = sender.held;
-    match held {
-        Held::Nothing => answer(sender, Answer::Nothing),
-        Held::Frame { sequence, repeats } => {
-            if repeats < REPEATS_MAX {
-                return send_again(sender, sequence, repeats, output);
-            }
-            answer(free(sender), Answer::Dropped(sequence))
-        }
+    match sender.held {
+        None => Outcome {
+            sender,
+            answer: Answer::Nothing,
+        },
+        Some(held) if held.repeats < REPEATS_MAX => send_again(sender, held, output),
+        Some(held) => Outcome {
+            sender: free(sender),
+            answer: Answer::Dropped(held.sequence),
+        },
     }
 }
 
 // The held frame once more.
-fn send_again(sender: Sender, sequence: u8, repeats: u8, output: &mut [u8]) -> Outcome
-    requires { repeats < repeats_max }
-    ensures { SendsAs (sent_again sender sequence repeats (length output.old)) output.old result output.new }
+fn send_again(sender: Sender, held: Held, output: &mut [u8]) -> Outcome
+    requires { held.repeats < repeats_max }
+    ensures { SendsAs (sent_again sender held.sequence held.repeats (length output.old)) output.old result output.new }
 {
-    let payload = sender.payload;
-    let bytes = payload.bytes;
-    match write_frame(
-        DATA,
-        sequence,
-        slices::first(&bytes, payload.length),
-        output,
-    ) {
-        Written::Refused(number) => answer(sender, Answer::Refused(number)),
+    let sequence = held.sequence;
+    match write_frame(DATA, sequence, sender.payload.as_slice(), output) {
+        Written::Refused(number) => Outcome {
+            sender,
+            answer: Answer::Refused(number),
+        },
         Written::Length(length) => {
-            let behind = Sender {
-                next: sender.next,
-                held: Held::Frame {
-                    sequence,
-                    repeats: repeats + 1,
-                },
-                payload,
+            let again = Held {
+                repeats: held.repeats + 1,
+                ..held
             };
-            answer(behind, Answer::Repeated { sequence, length })
+            Outcome {
+                sender: Sender {
+                    held: Some(again),
+                    ..sender
+                },
+                answer: Answer::Repeated { sequence, length },
+            }
         }
     }
 }
@@ -87,23 +94,8 @@ fn send_again(sender: Sender, sequence: u8, repeats: u8, output: &mut [u8]) -> O
 pub fn acknowledge(sender: Sender, sequence: u8) -> Sender
     ensures { result ≡ acknowledged sender sequence }
 {
-    let held = sender.held;
-    match held {
-        Held::Nothing => sender,
-        Held::Frame {
-            sequence: waiting,
-            ..
-        } => {
-            if sequence == waiting {
-                return free(sender);
-            }
-            sender
-        }
+    match sender.held {
+        Some(held) if held.sequence == sequence => free(sender),
+        _ => sender,
     }
-}
-
-fn answer(sender: Sender, answer: Answer) -> Outcome
-    ensures { result ≡ record { sender = sender; answer = answer } }
-{
-    Outcome { sender, answer }
 }

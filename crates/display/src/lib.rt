@@ -6,7 +6,7 @@ mod sending;
 ghost use Rattle.std.specs.Prelude.{◌≡◌, length};
 ghost use Rattle.display.specs.Display.{count_reading, take_reading, keep_board, fresh, tick_display, receive_piece, DisplaysAs};
 
-use link::receiver::{Link, count_unread};
+use link::receiver::{self, Link, count_unread};
 use rows::Board;
 use sender::Sender;
 pub use sending::{Outgoing, send, timeout};
@@ -48,11 +48,9 @@ pub struct Received {
 pub fn start(board: Board) -> Display
     ensures { result ≡ fresh board }
 {
-    let link = link::receiver::fresh();
-    let sender = sender::fresh();
     Display {
-        link,
-        sender,
+        link: receiver::fresh(),
+        sender: sender::fresh(),
         board,
     }
 }
@@ -61,14 +59,9 @@ pub fn start(board: Board) -> Display
 pub fn tick(display: Display) -> Display
     ensures { result ≡ tick_display display }
 {
-    let link = display.link;
-    let sender = display.sender;
-    let board = display.board;
-    let ticked = rows::lent_tick(board);
     Display {
-        link,
-        sender,
-        board: ticked,
+        board: rows::lent_tick(display.board),
+        ..display
     }
 }
 
@@ -78,58 +71,53 @@ pub fn tick(display: Display) -> Display
 pub fn receive(display: Display, piece: &[u8], reply: &mut [u8], packet: &mut [u8]) -> Received
     ensures { DisplaysAs (receive_piece display piece.now (length reply.old) (length packet.old)) reply.old packet.old result reply.new packet.new }
 {
-    let before = display.link;
-    let sender = display.sender;
-    let board = display.board;
-    let received = link::receiver::receive(before, piece, reply, packet);
-    let answer = received.answer;
-    match answer {
-        link::receiver::Answer::New {
+    let received = receiver::receive(display.link, piece, reply, packet);
+    let taken = received.taken;
+    let behind = Display {
+        link: received.link,
+        ..display
+    };
+    match received.answer {
+        receiver::Answer::New {
             reply: replied,
             packet: length,
         } => {
-            let reading = board::read(board, &packet[..length]);
-            hand_up(received, sender, replied, length, reading)
+            let reading = board::read(behind.board, &packet[..length]);
+            hand_up(behind, taken, replied, length, reading)
         }
-        link::receiver::Answer::Nothing => keep(received, sender, board, Answer::Nothing),
-        link::receiver::Answer::Refused { number, place } => {
-            keep(received, sender, board, Answer::Refused { number, place })
+        receiver::Answer::Nothing => keep(behind, taken, Answer::Nothing),
+        receiver::Answer::Refused { number, place } => {
+            keep(behind, taken, Answer::Refused { number, place })
         }
-        link::receiver::Answer::Heard(sequence) => {
-            let behind = sender::acknowledge(sender, sequence);
-            keep(received, behind, board, Answer::Heard(sequence))
+        receiver::Answer::Heard(sequence) => {
+            let sender = sender::acknowledge(behind.sender, sequence);
+            keep(Display { sender, ..behind }, taken, Answer::Heard(sequence))
         }
-        link::receiver::Answer::Again(length) => {
-            keep(received, sender, board, Answer::Again(length))
-        }
+        receiver::Answer::Again(length) => keep(behind, taken, Answer::Again(length)),
     }
 }
 
 // A new packet, with what the board read in it.
 fn hand_up(
-    received: link::receiver::Received,
-    sender: Sender,
+    display: Display,
+    taken: usize,
     reply: usize,
     packet: usize,
     reading: board::Reading,
 ) -> Received
-    ensures { result ≡ take_reading received sender reply packet reading }
+    ensures { result ≡ record { display = record { link = count_reading display.link reading.answer; sender = display.sender; board = reading.board }; taken = taken; answer = Answer.New reply packet reading.answer } }
 {
-    let answer = reading.answer;
-    let board = reading.board;
-    let state = received.link;
-    let link = count_reading(state, answer);
     Received {
         display: Display {
-            link,
-            sender,
-            board,
+            link: count_reading(display.link, reading.answer),
+            board: reading.board,
+            ..display
         },
-        taken: received.taken,
+        taken,
         answer: Answer::New {
             reply,
             packet,
-            reading: answer,
+            reading: reading.answer,
         },
     }
 }
@@ -140,28 +128,17 @@ fn count_reading(link: Link, reading: board::Answer) -> Link
 {
     match reading {
         board::Answer::Refused(_) => count_unread(link),
-        board::Answer::EndMark { .. } => link,
-        board::Answer::Updated { .. } => link,
+        board::Answer::EndMark { .. } | board::Answer::Updated { .. } => link,
     }
 }
 
 // A call that brought no new packet.
-fn keep(
-    received: link::receiver::Received,
-    sender: Sender,
-    board: Board,
-    answer: Answer,
-) -> Received
-    ensures { result ≡ keep_board received sender board answer }
+fn keep(display: Display, taken: usize, answer: Answer) -> Received
+    ensures { result ≡ record { display = display; taken = taken; answer = answer } }
 {
-    let link = received.link;
     Received {
-        display: Display {
-            link,
-            sender,
-            board,
-        },
-        taken: received.taken,
+        display,
+        taken,
         answer,
     }
 }

@@ -18,9 +18,7 @@ pub struct Outgoing {
 pub fn send(display: Display, payload: &[u8], output: &mut [u8]) -> Outgoing
     ensures { SendsAs display (send_of display.sender payload.now (length output.old)) output.old result output.new }
 {
-    let sender = display.sender;
-    let outcome = sender::send(sender, payload, output);
-    with_sender(display, outcome)
+    with_sender(display, sender::send(display.sender, payload, output))
 }
 
 // No acknowledgement came in time: the held frame is sent again the first two times, where an output
@@ -29,25 +27,18 @@ pub fn send(display: Display, payload: &[u8], output: &mut [u8]) -> Outgoing
 pub fn timeout(display: Display, output: &mut [u8]) -> Outgoing
     ensures { SendsAs display (timeout_of display.sender (length output.old)) output.old result output.new }
 {
-    let sender = display.sender;
-    let outcome = sender::timeout(sender, output);
-    with_sender(display, outcome)
+    with_sender(display, sender::timeout(display.sender, output))
 }
 
 // The display with the sender that an event left.
 fn with_sender(display: Display, outcome: sender::Outcome) -> Outgoing
     ensures { result ≡ sent_by display outcome }
 {
-    let link = display.link;
-    let sender = outcome.sender;
-    let board = display.board;
-    let answer = outcome.answer;
     Outgoing {
         display: Display {
-            link,
-            sender,
-            board,
+            sender: outcome.sender,
+            ..display
         },
-        answer,
+        answer: outcome.answer,
     }
 }

@@ -1,83 +1,61 @@
--- A line is read step by step: a byte that is no mark is passed over, and a group of three characters gives one byte.
-use mathlib.Core.Path.{◌≡◌, refl, ap, ◌∙◌}
+-- The parts of a line: what stands before a mark, the bytes that groups of three characters give, and the number of them.
+use mathlib.Core.Path.{◌≡◌, refl, sym}
 use mathlib.Core.Bool.{Bool, true, false, cond}
 use mathlib.Core.List.{List, [], ◌∷◌}
-use Prim.Native.Nat.{ℕ, suc, ◌+◌, ◌≤◌, ◌<◌}
+use Prim.Native.Nat.{ℕ, ◌+◌, ◌-◌, ◌≤◌, ◌<◌}
 use native.Mathlib.Omega.{arith}
 use lib.Dec.{eqb}
-use lib.ListN.{length, take, drop, get_or, length-drop, drop_of_length-le}
-use lib.Seq.{drop-cons}
-use borrow.Author.Tests.{eq-eqb, ne_eqb}
-use Rattle.cases.specs.Line.{until, line_at, key_of, byte_of, bytes_of, with_byte, number_from}
+use lib.ListN.{length, take, drop, get_or, length-drop}
+use lib.Seq.{take-length}
+use Rattle.std.proofs.Common.{None, Some}
+use Rattle.std.proofs.lemmas.Bool.Decides.{nat_tests}
+use Rattle.std.specs.List.{fold, position, position_or_len}
+use Rattle.std.proofs.lemmas.List.Recursion.{is_position_or_len}
+use Rattle.cases.specs.Line.{until, byte_of, bytes_of, case_bytes, with_byte, number_from}
 
-module _ (mark : ℕ) (text : List ℕ) (i : ℕ) where
-  pub passed_over : i < length text → (get_or text i 0 ≡ mark → ⊥)
-      → length (until mark (drop i text)) ≡ suc (length (until mark (drop (i + 1) text)))
-  unfolding until
-  passed_over h other =
-      let next : i + 1 ≡ suc i = omega arith in
-      rw (next, drop-cons text i 0 h, ne_eqb (get_or text i 0) mark other)
-
-  pub found : i < length text → get_or text i 0 ≡ mark → length (until mark (drop i text)) ≡ 0
-  unfolding until
-  found h same = rw (drop-cons text i 0 h, eq-eqb (get_or text i 0) mark same)
-
-  pub ended : length text ≤ i → length (until mark (drop i text)) ≡ 0
-  unfolding until
-  ended h = rw (drop_of_length-le text h)
-
--- past the text no line begins
-pub no_line : (text : List ℕ) (place : ℕ) → length text ≤ place → line_at text place ≡ []
+-- how many bytes stand before a mark is its place
+pub until_len : (mark : ℕ) (text : List ℕ) → length (until mark text) ≡ position_or_len (λ b. eqb b mark) text
 unfolding until
-no_line text place h = rw (drop_of_length-le text h)
-
--- what stands before a mark is a part of the text
-pub until_part : (mark : ℕ) (text : List ℕ) → take (length (until mark text)) text ≡ until mark text
-unfolding until
-until_part mark [] = refl
-until_part mark (x ∷ xs) = cases (eqb x mark) (until_part mark xs)
+until_len mark text = is_position_or_len (λ xs. length (until mark xs)) (λ b. eqb b mark) refl (λ x xs. cases (eqb x mark) x xs) text
   where
-    cases : (t : Bool) → take (length (until mark xs)) xs ≡ until mark xs
-        → take (length (cond t [] (x ∷ until mark xs))) (x ∷ xs) ≡ cond t [] (x ∷ until mark xs)
-    cases true rest = refl
-    cases false rest = ap (λ (l : List ℕ). x ∷ l) rest
+    cases : (t : Bool) (x : ℕ) (xs : List ℕ) → length (cond t [] (x ∷ until mark xs)) ≡ cond t 0 (1 + length (until mark xs))
+    cases true x xs = refl
+    cases false x xs = omega arith
 
-pub one_group : (text : List ℕ) (at : ℕ) → at + 3 ≤ length text
-    → bytes_of (drop at text) ≡ byte_of (get_or text (at + 1) 0) (get_or text (at + 2) 0) ∷ bytes_of (drop (at + 3) text)
-unfolding bytes_of
-one_group text at h =
-    let second : at + 1 ≡ suc at = omega arith in
-    let third : at + 2 ≡ suc (suc at) = omega arith in
-    let behind : at + 3 ≡ suc (suc (suc at)) = omega arith in
-    let cut : drop at text ≡ get_or text at 0 ∷ get_or text (suc at) 0 ∷ get_or text (suc (suc at)) 0 ∷ drop (suc (suc (suc at))) text =
-    drop-cons text at 0 (omega arith)
-    ∙ ap (λ (l : List ℕ). get_or text at 0 ∷ l) (drop-cons text (suc at) 0 (omega arith))
-    ∙ ap (λ (l : List ℕ). get_or text at 0 ∷ get_or text (suc at) 0 ∷ l) (drop-cons text (suc (suc at)) 0 (omega arith)) in
-    rw (second, third, behind, cut)
-
-short : (text : List ℕ) → length text < 3 → bytes_of text ≡ []
+-- fewer than three characters give no byte
+pub short : (bytes : List ℕ) → length bytes < 3 → bytes_of bytes ≡ []
 unfolding bytes_of
 short [] h = refl
 short (a ∷ []) h = refl
 short (a ∷ b ∷ []) h = refl
 short (a ∷ b ∷ c ∷ rest) h = absurd (omega arith)
 
-pub no_group : (text : List ℕ) (at : ℕ) → length text < at + 3 → bytes_of (drop at text) ≡ []
-no_group text at h = let size = length-drop at text in short (drop at text) (omega (arith, size))
+-- without a colon a line has no bytes, and else those behind it
+pub no_colon : (line : List ℕ) → None ≡ position (λ b. eqb b 58) line → case_bytes line ≡ []
+no_colon line none =
+    let all : length line ≤ position_or_len (λ b. eqb b 58) line = grind (arith, nat_tests) in
+    rw (until_len 58 line) (short _ (omega (arith, length-drop {A = ℕ})))
 
-pub no_key : (line : List ℕ) → length line ≡ 0 → 0 ≡ key_of line
-no_key [] h = refl
-no_key (x ∷ xs) h = absurd (omega arith)
+pub behind_colon : (line : List ℕ) (colon : ℕ) → Some colon ≡ position (λ b. eqb b 58) line
+    → bytes_of (take (length line - (colon + 1)) (drop (colon + 1) line)) ≡ case_bytes line
+behind_colon line colon some =
+    let place : position_or_len (λ b. eqb b 58) line ≡ colon = grind (arith, nat_tests) in
+    let size : length line - (colon + 1) ≡ length (drop (colon + 1) line) = sym (length-drop (colon + 1) line) in
+    rw (until_len 58 line, place, size, take-length) refl
 
-pub first_key : (line : List ℕ) → get_or line 0 0 ≡ key_of line
-first_key [] = refl
-first_key (x ∷ xs) = refl
+-- three characters give a byte
+pub one_group : (left : List ℕ) → 3 ≤ length left
+    → bytes_of left ≡ byte_of (get_or left 1 0) (get_or left 2 0) ∷ bytes_of (take (length left - 3) (drop 3 left))
+unfolding bytes_of
+one_group [] h = absurd (omega arith)
+one_group (a ∷ []) h = absurd (omega arith)
+one_group (a ∷ b ∷ []) h = absurd (omega arith)
+one_group (a ∷ b ∷ c ∷ rest) h =
+    let size : length (a ∷ b ∷ c ∷ rest) - 3 ≡ length rest = omega arith in
+    rw (size, take-length rest) refl
 
-module _ (number : ℕ) (bytes : List ℕ) (i : ℕ) where
-  pub one_byte : i < length bytes → number_from number (drop i bytes) ≡ number_from (with_byte number (get_or bytes i 0)) (drop (i + 1) bytes)
-  unfolding number_from
-  one_byte h = let next : i + 1 ≡ suc i = omega arith in rw (next, drop-cons bytes i 0 h)
-
-  pub no_byte : length bytes ≤ i → number_from number (drop i bytes) ≡ number
-  unfolding number_from
-  no_byte h = rw (drop_of_length-le bytes h)
+-- a number is folded from its bytes
+pub number_fold : (number : ℕ) (bytes : List ℕ) → number_from number bytes ≡ fold with_byte number bytes
+unfolding number_from
+number_fold number [] = refl
+number_fold number (byte ∷ bytes) = number_fold (with_byte number byte) bytes

@@ -1,5 +1,5 @@
 -- A lent buffer as text: its bytes in hexadecimal up to and with the last one that a call has touched.
-use Rattle.std.specs.Prelude.{ℕ, suc, ◌+◌, ◌-◌, ◌/◌, ◌%◌, cond, List, [], ◌∷◌, eqb, ltb}
+use Rattle.std.specs.Prelude.{◌≡◌, ◌≢◌, ℕ, suc, ◌+◌, ◌-◌, ◌/◌, ◌%◌, ◌<◌, cond, List, [], ◌∷◌, eqb, ltb, length, slice_index, Option, MatchOption}
 use Rattle.slices.specs.Each.{each}
 
 -- a hexadecimal digit as text, in small letters: 30 is the code of 0, and 61 that of a
@@ -25,3 +25,10 @@ written_from count place (byte ∷ bytes) = written_from (cond (eqb byte untouch
 
 abbrev pub written_of : List ℕ → ℕ
 written_of buffer = written_from 0 0 buffer
+
+-- the place of the last touched byte: all behind it are untouched, and where there is none all are
+abbrev pub LastTouched : List ℕ → Option ℕ → Type 0
+LastTouched buffer last =
+    MatchOption last ((k : ℕ) → k < length buffer → slice_index buffer k ≡ untouched)
+    (λ i. (i < length buffer) × (slice_index buffer i ≢ untouched)
+    × ((k : ℕ) → i < k → k < length buffer → slice_index buffer k ≡ untouched))

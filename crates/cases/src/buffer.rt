@@ -1,7 +1,7 @@
 // A lent buffer as text: bytes in hexadecimal, and how many of them a call has touched.
 ghost use Rattle.std.specs.Prelude.{◌≡◌, ◌%◌, ◌≤◌, length};
 ghost use Rattle.slices.specs.Put.{put_at};
-ghost use Rattle.cases.specs.Buffer.{hex_digit_ascii, hex_of, written_of};
+ghost use Rattle.cases.specs.Buffer.{hex_digit_ascii, hex_of, written_of, LastTouched};
 
 // What a lent buffer holds before a call.
 pub const UNTOUCHED: u8 = 0xee;
@@ -11,14 +11,10 @@ pub const UNTOUCHED: u8 = 0xee;
 pub(crate) fn put_digits(out: &mut [u8], bytes: &[u8]) -> usize
     ensures { (result ≡ length (hex_of bytes.now)) × (out.new ≡ put_at out.old 0 (hex_of bytes.now)) }
 {
-    let mut to: usize = 0;
-    let mut i: usize = 0;
-    while i < bytes.len() {
-        let byte = bytes[i];
-        let pair = [digit(byte / 16), digit(byte)];
-        slices::put(out, to, &pair);
+    let mut to = 0;
+    for byte in bytes {
+        slices::put(out, to, &[digit(*byte / 16), digit(*byte)]);
         to += 2;
-        i += 1;
     }
     to
 }
@@ -39,14 +35,12 @@ pub(crate) fn written(buffer: &[u8]) -> usize
     ensures value { result ≡ written_of buffer.now }
     ensures upper_bound { result ≤ length buffer.now }
 {
-    let mut count: usize = 0;
-    let mut i: usize = 0;
-    while i < buffer.len() {
-        let byte = buffer[i];
-        i += 1;
-        if byte != UNTOUCHED {
-            count = i;
-        }
-    }
-    count
+    last_touched(buffer).map_or(0, |last| last + 1)
+}
+
+// The place of the last byte that is touched.
+fn last_touched(buffer: &[u8]) -> Option<usize>
+    ensures { LastTouched buffer.now result }
+{
+    buffer.iter().rposition(|byte| *byte != UNTOUCHED)
 }

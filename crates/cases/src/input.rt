@@ -8,6 +8,7 @@ use std::io::Read;
 pub fn read_full(input: &mut impl Read, buffer: &mut [u8]) -> usize
     ensures { IsPrefixLen result buffer.new }
 {
+    // A count, not a `for`: what a read gives says where the next one begins.
     let mut count: usize = 0;
     while count < buffer.len() {
         match input.read(&mut buffer[count..]) {

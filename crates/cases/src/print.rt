@@ -20,13 +20,8 @@ pub fn number(rt: &impl Print, label: &[u8], number: u64) {
 // A label and the first `count` of the bytes, two hexadecimal digits each.
 pub fn bytes(rt: &impl Print, label: &[u8], bytes: &[u8], count: usize) {
     text(rt, label);
-    let mut i: usize = 0;
-    while i < bytes.len() {
-        if count <= i {
-            return;
-        }
-        byte(rt, bytes[i]);
-        i += 1;
+    for item in bytes.iter().take(count) {
+        byte(rt, *item);
     }
 }
 
@@ -37,19 +32,16 @@ fn byte(rt: &impl Print, byte: u8) {
 // A label and a lent buffer: its bytes up to and with the last one that is not ee, and behind a plus
 // how many bytes follow.
 pub fn lent(rt: &impl Print, label: &[u8], buffer: &[u8]) {
-    let count = written(buffer);
-    hex(rt, label, slices::first(buffer, count));
-    let rest = buffer.len() - count;
-    number(rt, b"+", rest as u64);
+    let (touched, rest) = buffer.split_at(written(buffer));
+    hex(rt, label, touched);
+    number(rt, b"+", rest.len() as u64);
 }
 
 // A label and bytes, two hexadecimal digits each, many bytes in one write.
 pub fn hex(rt: &impl Print, label: &[u8], bytes: &[u8]) {
     text(rt, label);
-    let mut at: usize = 0;
-    while at < bytes.len() {
-        hex_part(rt, slices::first(&bytes[at..], PART));
-        at += PART;
+    for part in bytes.chunks(PART) {
+        hex_part(rt, part);
     }
 }
 

@@ -30,10 +30,8 @@ fn main(rt: HostRuntime) {
 
 fn run_all(rt: &impl Print, text: &[u8], file: &mut [u8]) {
     let mut state = subjects::first();
-    let mut at: usize = 0;
-    while at < text.len() {
-        state = run(rt, state, line::at(text, at), file);
-        at = line::behind(text, at);
+    for line in text.split(|byte| *byte == b'\n') {
+        state = run(rt, state, line, file);
     }
 }
 

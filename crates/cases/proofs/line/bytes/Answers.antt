@@ -1,33 +1,30 @@
-use Rattle.std.proofs.Common.{◌≡◌, ℕ, ◌+◌, List, length, drop, arith, subst}
-use Rattle.cases.specs.Line.{until, bytes_of, case_bytes}
-use Rattle.cases.proofs.LineLaws.{one_group, no_group}
-use Rattle.cases.proofs.ReadingLaws.{Read, next_stored, none_left, full}
+use Rattle.std.proofs.Common.{◌-◌, take, drop, length, arith, rules}
+use Rattle.std.proofs.lemmas.List.{set-get_or}
+use Rattle.cases.specs.Line.{bytes_of}
+use Rattle.cases.proofs.LineLaws.{no_colon, behind_colon, one_group, short}
+use Rattle.cases.proofs.ReadingLaws.{next_stored, none_left, full}
 use Rattle.cases.proofs.line.bytes.Goals as goal
 
--- the bytes behind the place that was found are those of the line
-behind_colon : {place count : ℕ} {buffer : List ℕ} (start line : List ℕ) → place ≡ length (until 58 line)
-    → Read (bytes_of (drop (place + 1) line)) start buffer count → Read (case_bytes line) start buffer count
-behind_colon {place} {count} {buffer} start line e r = subst (λ (n : ℕ). Read (bytes_of (drop (n + 1) line)) start buffer count) e r
+pub returns-in_default-clause-out_after : goal.returns-in_default-clause-out_after
+returns-in_default-clause-out_after c = rw (no_colon c.args.line.now c.in_default.ensures) (search rules)
 
-pub returns-then-line-end-clause-out_after : goal.returns-then-line-end-clause-out_after
-returns-then-line-end-clause-out_after c =
-    (behind_colon c.args.out.now c.args.line.now c.find-at.ensures.value (none_left c.loop-count.invariant.1 (no_group c.args.line.now c.loop-count.at c.if-line-end.true))).0
+pub returns-in_default-clause-value : goal.returns-in_default-clause-value
+returns-in_default-clause-value c = rw (no_colon c.args.line.now c.in_default.ensures) (search rules)
 
-pub returns-then-line-end-clause-value : goal.returns-then-line-end-clause-value
-returns-then-line-end-clause-value c =
-    (behind_colon c.args.out.now c.args.line.now c.find-at.ensures.value (none_left c.loop-count.invariant.1 (no_group c.args.line.now c.loop-count.at c.if-line-end.true))).1.0
+pub returns-in_default-left : goal.returns-in_default-left
+returns-in_default-left c =
+    let none = none_left c.loop-count.invariant (short _ c.in_default-left.len_below) (omega arith) in
+    let read = rw (behind_colon c.args.line.now c.in-Some.colon c.in-Some.ensures) at none in
+    rw (set-get_or c.loop-count.out c.loop-count.count 0) (record { out_after = read.0; value = read.1; prefix_len = search rules })
 
 pub loop-count-preserved : goal.loop-count-preserved
 loop-count-preserved c =
-    let line = c.args.line.now in
-    let at = c.loop-count.at in
-    let group = one_group line at c.if-line-end.false in
-    (omega arith, next_stored c.loop-count.invariant.1 c.byte.result (bytes_of (drop (at + 3) line)) (rw c.byte.ensures group) c.loop-count-test.true)
+    let left = c.loop-count.left.now in
+    next_stored c.loop-count.invariant c.byte.result (bytes_of (take (length left - 3) (drop 3 left)))
+    (rw c.byte.ensures (one_group left c.in-len3-up.len_at_least)) (omega arith)
 
-pub returns-clause-out_after : goal.returns-clause-out_after
-returns-clause-out_after c =
-    (behind_colon c.args.out.now c.args.line.now c.find-at.ensures.value (full c.loop-count.invariant.1 c.loop-count-test.false)).0
-
-pub returns-clause-value : goal.returns-clause-value
-returns-clause-value c =
-    (behind_colon c.args.out.now c.args.line.now c.find-at.ensures.value (full c.loop-count.invariant.1 c.loop-count-test.false)).1.0
+pub returns : goal.returns
+returns c =
+    let all = full c.loop-count.invariant (omega arith) in
+    let read = rw (behind_colon c.args.line.now c.in-Some.colon c.in-Some.ensures) at all in
+    record { out_after = read.0; value = read.1; prefix_len = search rules }

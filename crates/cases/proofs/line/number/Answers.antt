@@ -1,11 +1,7 @@
-use Rattle.std.proofs.Common.{arith, sym, ◌∙◌}
-use Rattle.cases.proofs.LineLaws.{one_byte, no_byte}
+-- `cases::line::number` meets its contract: what folds the bytes is what makes the number of them.
+use Rattle.std.proofs.Common.{rules}
+use Rattle.cases.proofs.LineLaws.{number_fold}
 use Rattle.cases.proofs.line.number.Goals as goal
 
-pub loop-i-preserved : goal.loop-i-preserved
-loop-i-preserved c =
-    let one = one_byte c.loop-i.number c.args.bytes.now c.loop-i.i c.loop-i-test.true in
-    (omega arith, rw c.with_byte-number.ensures (sym one ∙ c.loop-i.invariant.1))
-
 pub returns : goal.returns
-returns c = sym (no_byte c.loop-i.number c.args.bytes.now c.loop-i.i c.loop-i-test.false) ∙ c.loop-i.invariant.1
+returns c = rw (number_fold 0 c.args.bytes.now) (search rules)

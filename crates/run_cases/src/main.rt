@@ -8,7 +8,7 @@
 mod subjects;
 
 use cases::{input, line, print};
-use subjects::State;
+use subjects::Subject;
 use transfer_cases::FILE_MAX;
 
 // The input is shorter than this, or is not run.
@@ -29,27 +29,32 @@ fn main(rt: HostRuntime) {
 }
 
 fn run_all(rt: &impl Print, text: &[u8], file: &mut [u8]) {
-    let mut state = subjects::first();
+    let mut subject = Subject::Nothing;
     for line in text.split(|byte| *byte == b'\n') {
-        state = run(rt, state, line, file);
+        subject = run(rt, subject, line, file);
     }
 }
 
-fn run(rt: &impl Print, state: State, line: &[u8], file: &mut [u8]) -> State {
+fn run(rt: &impl Print, subject: Subject, line: &[u8], file: &mut [u8]) -> Subject {
     let mut bytes = [0u8; CASE_ROOM];
     let count = line::bytes(line, &mut bytes);
     if count == CASE_ROOM {
         line::not_run(rt, line, b"too long");
-        return state;
+        return subject;
     }
-    run_line(rt, state, line, &bytes[..count], file)
+    run_line(rt, subject, line, &bytes[..count], file)
 }
 
-fn run_line(rt: &impl Print, state: State, line: &[u8], bytes: &[u8], file: &mut [u8]) -> State {
-    let key = line::key(line);
-    match key {
-        b'#' | 0 => state,
+fn run_line(
+    rt: &impl Print,
+    subject: Subject,
+    line: &[u8],
+    bytes: &[u8],
+    file: &mut [u8],
+) -> Subject {
+    match line::key(line) {
+        b'#' | 0 => subject,
         b'=' => subjects::next(rt, line),
-        _ => subjects::run(rt, state, line, bytes, file),
+        _ => subjects::run(rt, subject, line, bytes, file),
     }
 }

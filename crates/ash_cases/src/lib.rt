@@ -7,32 +7,22 @@
 // Before each call the output holds ee.
 use ash::reader::FrameRead;
 use ash::writer::Written;
+use cases::buffer::UNTOUCHED;
 use cases::{line, print};
 
 // The longest output that is lent.
 const OUTPUT_MAX: usize = 80;
 
 pub fn run(rt: &impl Print, line: &[u8], bytes: &[u8]) {
-    let mut output = [0xeeu8; OUTPUT_MAX];
-    run_lending(rt, line, bytes, &mut output);
-}
-
-fn run_lending(rt: &impl Print, line: &[u8], bytes: &[u8], out: &mut [u8]) {
-    if bytes.len() == 0 {
-        line::not_run(rt, line, b"too few bytes");
-        return;
+    let mut output = [UNTOUCHED; OUTPUT_MAX];
+    let too_long = b"too long an output";
+    if let Some((room, rest)) = line::room(rt, line, bytes, OUTPUT_MAX, too_long) {
+        run_case(rt, line, rest, &mut output[..room]);
     }
-    let room = bytes[0] as usize;
-    if out.len() < room {
-        line::not_run(rt, line, b"too long an output");
-        return;
-    }
-    run_case(rt, line, &bytes[1..], &mut out[..room]);
 }
 
 fn run_case(rt: &impl Print, line: &[u8], bytes: &[u8], out: &mut [u8]) {
-    let key = line::key(line);
-    match key {
+    match line::key(line) {
         b'w' => show_written(rt, line, bytes, out),
         b'r' => show_read(rt, line, bytes, out),
         _ => line::not_run(rt, line, b"no such key"),
@@ -40,13 +30,12 @@ fn run_case(rt: &impl Print, line: &[u8], bytes: &[u8], out: &mut [u8]) {
 }
 
 fn show_written(rt: &impl Print, line: &[u8], bytes: &[u8], out: &mut [u8]) {
-    if bytes.len() == 0 {
+    let [control, payload @ ..] = bytes else {
         line::not_run(rt, line, b"too few bytes");
         return;
-    }
+    };
     line::label(rt, line);
-    let written = ash::writer::write_frame(bytes[0], &bytes[1..], out);
-    match written {
+    match ash::writer::write_frame(*control, payload, out) {
         Written::Length(length) => print::number(rt, b": length ", length as u64),
         Written::Refused(refusal) => print::number(rt, b": refused ", refusal as u64),
     }
@@ -55,8 +44,7 @@ fn show_written(rt: &impl Print, line: &[u8], bytes: &[u8], out: &mut [u8]) {
 
 fn show_read(rt: &impl Print, line: &[u8], bytes: &[u8], out: &mut [u8]) {
     line::label(rt, line);
-    let read = ash::reader::read_frame(bytes, out);
-    match read {
+    match ash::reader::read_frame(bytes, out) {
         FrameRead::Frame { control, length } => {
             print::number(rt, b": control ", control as u64);
             print::number(rt, b" length ", length as u64);

@@ -1,7 +1,8 @@
 // The parts of a case's line.
-ghost use Rattle.std.specs.Prelude.{◌≡◌, ◌==◌, ◌<◌, min, length, position};
+ghost use Rattle.std.specs.Prelude.{◌≡◌, ◌==◌, ◌<◌, min, length, position, MatchOption};
 ghost use Rattle.cases.specs.Counts.{IsPrefixLen};
 ghost use Rattle.slices.specs.Put.{put_at};
+ghost use Rattle.cases.specs.Lending.{Lends, LendsNothing};
 ghost use Rattle.cases.specs.Line.{key_of, digit_of, byte_of, case_bytes, with_byte, number_from};
 
 use crate::print;
@@ -28,6 +29,29 @@ pub fn not_run(rt: &impl Print, line: &[u8], why: &[u8]) {
     print::text(rt, b": ");
     label(rt, line);
     print::text(rt, b"\n");
+}
+
+// The length of the buffer that a case lends, which is its first byte, and the bytes behind it. A case
+// without that byte, or with a length of more than `most`, is not run; `too_long` tells of the length.
+pub fn room<'a>(
+    rt: &impl Print,
+    line: &[u8],
+    bytes: &'a [u8],
+    most: usize,
+    too_long: &[u8],
+) -> Option<(usize, &'a [u8])>
+    ensures { MatchOption result (LendsNothing bytes.now most) (λ lent. Lends bytes.now most lent.0 lent.1.now) }
+{
+    let [first, rest @ ..] = bytes else {
+        not_run(rt, line, b"too few bytes");
+        return None;
+    };
+    let room = *first as usize;
+    if most < room {
+        not_run(rt, line, too_long);
+        return None;
+    }
+    Some((room, rest))
 }
 
 // Puts the bytes of a line at the start of a lent buffer, and answers how many they are. Of bytes

@@ -12,41 +12,22 @@ use cutter::state::{Answer, Cut, Cutter};
 const FRAME_ROOM: usize = 80;
 
 pub fn run(rt: &impl Print, state: Cutter, line: &[u8], bytes: &[u8]) -> Cutter {
-    let key = line::key(line);
-    match key {
+    match line::key(line) {
         b'n' => cutter::fresh(),
         b'p' => give(rt, state, line, bytes),
-        _ => no_key(rt, state, line),
+        _ => {
+            line::not_run(rt, line, b"no such key");
+            state
+        }
     }
-}
-
-fn no_key(rt: &impl Print, state: Cutter, line: &[u8]) -> Cutter {
-    line::not_run(rt, line, b"no such key");
-    state
 }
 
 fn give(rt: &impl Print, state: Cutter, line: &[u8], bytes: &[u8]) -> Cutter {
     let mut frame = [UNTOUCHED; FRAME_ROOM];
-    give_lending(rt, state, line, bytes, &mut frame)
-}
-
-fn give_lending(
-    rt: &impl Print,
-    state: Cutter,
-    line: &[u8],
-    bytes: &[u8],
-    frame: &mut [u8],
-) -> Cutter {
-    if bytes.len() == 0 {
-        line::not_run(rt, line, b"too few bytes");
-        return state;
+    match line::room(rt, line, bytes, FRAME_ROOM, b"too long a buffer") {
+        Some((room, piece)) => cut(rt, state, line, piece, &mut frame[..room]),
+        None => state,
     }
-    let room = bytes[0] as usize;
-    if frame.len() < room {
-        line::not_run(rt, line, b"too long a buffer");
-        return state;
-    }
-    cut(rt, state, line, &bytes[1..], &mut frame[..room])
 }
 
 fn cut(rt: &impl Print, state: Cutter, line: &[u8], piece: &[u8], frame: &mut [u8]) -> Cutter {
@@ -60,8 +41,7 @@ fn cut(rt: &impl Print, state: Cutter, line: &[u8], piece: &[u8], frame: &mut [u
 
 fn show(rt: &impl Print, brought: Cut) {
     let taken = brought.taken as u64;
-    let answer = brought.answer;
-    match answer {
+    match brought.answer {
         Answer::Refused(refusal) => {
             print::number(rt, b": refused ", refusal as u64);
             print::number(rt, b" taken ", taken);

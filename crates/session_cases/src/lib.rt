@@ -14,18 +14,15 @@ use cases::line;
 pub use steps::{Sessions, first};
 
 pub fn run(rt: &impl Print, state: Sessions, line: &[u8], bytes: &[u8]) -> Sessions {
-    let key = line::key(line);
-    match key {
+    match line::key(line) {
         b'n' => steps::begin(state),
         b'm' => steps::mark(state),
         b'b' => steps::go_back(state),
         b'q' => steps::show(rt, state, line),
         b'r' | b't' | b's' | b'f' => steps::run_event(rt, state, line, bytes),
-        _ => no_key(rt, state, line),
+        _ => {
+            line::not_run(rt, line, b"no such key");
+            state
+        }
     }
-}
-
-fn no_key(rt: &impl Print, state: Sessions, line: &[u8]) -> Sessions {
-    line::not_run(rt, line, b"no such key");
-    state
 }

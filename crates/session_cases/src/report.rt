@@ -5,8 +5,7 @@ use session::state::{Answer, Held, Outcome, Payload, Session};
 
 pub(crate) fn show_answer(rt: &impl Print, line: &[u8], outcome: Outcome) {
     line::label(rt, line);
-    let answer = outcome.answer;
-    match answer {
+    match outcome.answer {
         Answer::Refused(refusal) => print::number(rt, b": refused ", refusal as u64),
         Answer::Done {
             sent,
@@ -39,10 +38,8 @@ fn show_number(rt: &impl Print, number: OFC) {
 
 pub(crate) fn show_session(rt: &impl Print, line: &[u8], session: Session) {
     line::label(rt, line);
-    let counter = session.counter;
-    let good = session.good;
-    print::number(rt, b": counter ", counter.0 as u64);
-    print::number(rt, b" good ", good.0 as u64);
+    print::number(rt, b": counter ", session.counter.0 as u64);
+    print::number(rt, b" good ", session.good.0 as u64);
     if session.awaiting {
         print::text(rt, b" awaiting");
     }
@@ -52,15 +49,12 @@ pub(crate) fn show_session(rt: &impl Print, line: &[u8], session: Session) {
 
 // The frames that are held, oldest first.
 fn show_held(rt: &impl Print, session: Session) {
-    let held = session.held;
-    let older = session.older;
-    let newer = session.newer;
-    match held {
+    match session.held {
         Held::Nothing => (),
-        Held::One(number) => show_frame(rt, number, older),
+        Held::One(number) => show_frame(rt, number, session.older),
         Held::Two(first, second) => {
-            show_frame(rt, first, older);
-            show_frame(rt, second, newer);
+            show_frame(rt, first, session.older);
+            show_frame(rt, second, session.newer);
         }
     }
 }
@@ -68,6 +62,5 @@ fn show_held(rt: &impl Print, session: Session) {
 // A held frame: its number, and its data before stuffing.
 fn show_frame(rt: &impl Print, number: OFC, payload: Payload) {
     print::number(rt, b" held ", number.0 as u64);
-    let bytes = payload.bytes;
-    print::hex(rt, b" ", slices::first(&bytes, payload.length));
+    print::hex(rt, b" ", slices::first(&payload.bytes, payload.length));
 }

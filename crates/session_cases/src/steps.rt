@@ -34,30 +34,27 @@ pub fn first() -> Sessions
 pub(crate) fn begin(state: Sessions) -> Sessions
     ensures { (result.session ≡ fresh_session) × (result.marked ≡ state.marked) }
 {
-    let marked = state.marked;
     Sessions {
         session: fresh(),
-        marked,
+        ..state
     }
 }
 
 pub(crate) fn mark(state: Sessions) -> Sessions
     ensures { (result.session ≡ state.session) × (result.marked ≡ state.session) }
 {
-    let session = state.session;
     Sessions {
-        session,
-        marked: session,
+        marked: state.session,
+        ..state
     }
 }
 
 pub(crate) fn go_back(state: Sessions) -> Sessions
     ensures { (result.session ≡ state.marked) × (result.marked ≡ state.marked) }
 {
-    let marked = state.marked;
     Sessions {
-        session: marked,
-        marked,
+        session: state.marked,
+        ..state
     }
 }
 
@@ -67,29 +64,15 @@ pub(crate) fn show(rt: &impl Print, state: Sessions, line: &[u8]) -> Sessions {
 }
 
 pub(crate) fn run_event(rt: &impl Print, state: Sessions, line: &[u8], bytes: &[u8]) -> Sessions {
-    let marked = state.marked;
     let mut output = [UNTOUCHED; OUTPUT_MAX];
-    let session = lend_output(rt, state.session, line, bytes, &mut output);
-    Sessions { session, marked }
-}
-
-fn lend_output(
-    rt: &impl Print,
-    session: Session,
-    line: &[u8],
-    bytes: &[u8],
-    output: &mut [u8],
-) -> Session {
-    if bytes.len() == 0 {
-        line::not_run(rt, line, b"too few bytes");
-        return session;
+    let too_long = b"too long an output";
+    match line::room(rt, line, bytes, OUTPUT_MAX, too_long) {
+        Some((room, rest)) => Sessions {
+            session: take_event(rt, state.session, line, rest, &mut output[..room]),
+            ..state
+        },
+        None => state,
     }
-    let room = bytes[0] as usize;
-    if output.len() < room {
-        line::not_run(rt, line, b"too long an output");
-        return session;
-    }
-    take_event(rt, session, line, &bytes[1..], &mut output[..room])
 }
 
 fn take_event(
@@ -99,8 +82,7 @@ fn take_event(
     bytes: &[u8],
     output: &mut [u8],
 ) -> Session {
-    let key = line::key(line);
-    match key {
+    match line::key(line) {
         b'r' => sent(rt, line, ours::reset(session, output), output),
         b't' => sent(rt, line, ours::timeout(session, output), output),
         b's' => sent(rt, line, ours::send(session, bytes, output), output),
@@ -124,27 +106,11 @@ fn receive(
     output: &mut [u8],
 ) -> Session {
     let mut payload = [UNTOUCHED; PAYLOAD_ROOM_MAX];
-    lend_payload(rt, session, line, bytes, output, &mut payload)
-}
-
-fn lend_payload(
-    rt: &impl Print,
-    session: Session,
-    line: &[u8],
-    bytes: &[u8],
-    output: &mut [u8],
-    payload: &mut [u8],
-) -> Session {
-    if bytes.len() == 0 {
-        line::not_run(rt, line, b"too few bytes");
-        return session;
+    let too_long = b"too long a payload";
+    match line::room(rt, line, bytes, PAYLOAD_ROOM_MAX, too_long) {
+        Some((room, frame)) => take_frame(rt, session, line, frame, output, &mut payload[..room]),
+        None => session,
     }
-    let room = bytes[0] as usize;
-    if payload.len() < room {
-        line::not_run(rt, line, b"too long a payload");
-        return session;
-    }
-    take_frame(rt, session, line, &bytes[1..], output, &mut payload[..room])
 }
 
 fn take_frame(

@@ -10,24 +10,25 @@
 // with the file `stdout`. By document 01, The receiver, each time brings case 6 with sequence 01, an
 // update of h2 that is sent twice, an acknowledgement, an update of a name that is not watched, which
 // is unread, and one byte between flags, which is refused by 3.
-ghost use Rattle.std.specs.Prelude.{◌≤◌, min, length};
-ghost use Rattle.frame.specs.Content.{payload_max};
-ghost use Rattle.link.specs.Closing.{reply_room};
+ghost use Rattle.display.specs.Taking.{Takes};
 
 use cases::{input, line};
-use display::Display;
+use display::{Display, Received};
 use frame::PAYLOAD_MAX;
 use link::receiver::REPLY_ROOM;
 
 // What is read of the input: its first bytes, if it is longer.
 const INPUT_ROOM: usize = 65536;
 
-// The three numbers before the watch list.
-const SIZE_END: usize = 4;
+// The bytes of a number before the watch list.
+const NUMBER_SIZE: usize = 4;
 
-const ROUNDS_END: usize = 8;
-
-const LISTED_END: usize = 12;
+// The buffers that a call of the receiver is lent.
+#[derive(Clone, Copy)]
+struct Buffers {
+    reply: [u8; REPLY_ROOM],
+    packet: [u8; PAYLOAD_MAX],
+}
 
 fn main(rt: HostRuntime) {
     let mut bytes = [0u8; INPUT_ROOM];
@@ -35,76 +36,62 @@ fn main(rt: HostRuntime) {
     feed_input(&rt, &bytes[..length]);
 }
 
-fn feed_input(rt: &impl Print, input: &[u8]) {
-    if input.len() < LISTED_END {
-        return;
-    }
-    let size = line::number(&input[..SIZE_END]) as usize;
-    let rounds = line::number(&input[SIZE_END..ROUNDS_END]) as usize;
-    let listed = line::number(&input[ROUNDS_END..LISTED_END]) as usize;
-    let rest = &input[LISTED_END..];
-    if rest.len() < listed {
-        return;
-    }
-    let watched = board::watch_list(&rest[..listed]);
-    let fresh = display::start(watched.board);
-    let last = feed_rounds(fresh, &rest[listed..], size, rounds);
-    display_cases::show_display(rt, last);
+// Nothing where the input is cut.
+fn feed_input(rt: &impl Print, input: &[u8]) -> Option<()> {
+    let (size, rest) = number(input)?;
+    let (rounds, rest) = number(rest)?;
+    let (listed, rest) = number(rest)?;
+    let (list, stream) = rest.split_at_checked(listed)?;
+    let fresh = display::start(board::watch_list(list).board);
+    display_cases::show_display(rt, feed_rounds(fresh, stream, size, rounds));
+    Some(())
+}
+
+// The number that the input begins with, and what stands behind it.
+fn number(input: &[u8]) -> Option<(usize, &[u8])> {
+    let (bytes, rest) = input.split_at_checked(NUMBER_SIZE)?;
+    Some((line::number(bytes) as usize, rest))
 }
 
 fn feed_rounds(display: Display, stream: &[u8], size: usize, rounds: usize) -> Display {
-    let mut reply = [0u8; REPLY_ROOM];
-    let mut packet = [0u8; PAYLOAD_MAX];
+    let mut buffers = Buffers {
+        reply: [0; REPLY_ROOM],
+        packet: [0; PAYLOAD_MAX],
+    };
     let mut next = display;
-    let mut i: usize = 0;
-    while i < rounds {
-        next = feed(next, stream, size, &mut reply, &mut packet);
-        i += 1;
+    for _ in 0..rounds {
+        next = feed(next, stream, size, &mut buffers);
     }
     next
 }
 
-// Feeds the stream once, in pieces.
-fn feed(
-    display: Display,
-    stream: &[u8],
-    size: usize,
-    reply: &mut [u8],
-    packet: &mut [u8],
-) -> Display
-    requires { (reply_room ≤ length reply.old) × (payload_max ≤ length packet.old) }
-{
-    let mut next = display;
-    let mut at: usize = 0;
-    while at < stream.len() {
-        let end = at + piece_length(size, stream.len() - at);
-        next = feed_piece(next, &stream[at..end], reply, packet);
-        at = end;
-    }
-    next
-}
-
-// The next piece of what is left of a stream; a size of 0 means all of it. The contract says only that
-// some of it is taken: the loop needs that to end.
-fn piece_length(size: usize, left: usize) -> usize
-    ensures { (result ≤ left) × (min left 1 ≤ result) }
-{
+// Feeds the stream once, in pieces; a size of 0 means all of it.
+fn feed(display: Display, stream: &[u8], size: usize, buffers: &mut Buffers) -> Display {
     if size == 0 {
-        return left;
+        return feed_piece(display, stream, buffers);
     }
-    if left < size { left } else { size }
+    let mut next = display;
+    for piece in stream.chunks(size) {
+        next = feed_piece(next, piece, buffers);
+    }
+    next
 }
 
 // Calls the receiver until the piece is taken.
-fn feed_piece(display: Display, piece: &[u8], reply: &mut [u8], packet: &mut [u8]) -> Display
-    requires { (reply_room ≤ length reply.old) × (payload_max ≤ length packet.old) }
-{
+fn feed_piece(display: Display, piece: &[u8], buffers: &mut Buffers) -> Display {
     let mut next = display;
-    let mut at: usize = 0;
-    while at < piece.len() {
-        let received = display::receive(next, &piece[at..], reply, packet);
+    let mut left = piece;
+    while !left.is_empty() {
+        let received = call(next, left, buffers);
         next = received.display;
-        at += received.taken;
+        left = &left[received.taken..];
     }
     next
+}
+
+// One call. The contract says how many bytes it takes, and no more: the loop needs that to end.
+fn call(display: Display, piece: &[u8], buffers: &mut Buffers) -> Received
+    ensures { Takes piece.now result.taken }
+{
+    display::receive(display, piece, &mut buffers.reply, &mut buffers.packet)
 }

@@ -1,48 +1,19 @@
--- Each answer of the frame functions computes to its report, and each part of a report can be read off it, since it has digits
+-- What the frame functions answer fits its part of a report, and each part of a report can be read off it, since it has digits
 -- of its own.
-use mathlib.Core.Path.{◌≡◌, refl, ap, ◌∙◌}
+use mathlib.Core.Path.{◌≡◌, refl}
 use mathlib.Core.List.{List}
 use Prim.Native.Nat.{ℕ, ◌≤◌, ◌<◌}
 use native.Mathlib.Omega.{arith}
 use lib.ListN.{length}
 use Rattle.slices.specs.Written as writing
 use Rattle.slices.specs.Written.{Output, write_answer, WritesAs}
-use Rattle.slices.specs.declared.Written.{Written}
 use Rattle.slices.specs.declared.Written.TheVariants as written
 use Rattle.slices.proofs.Impossible.{impossible}
 use Rattle.frame.specs.Content as content
 use Rattle.frame.specs.Content.{no_place}
-use Rattle.frame.specs.Answers.{read_answer, ReadsAs}
-use Rattle.frame.specs.declared.content.FrameRead.{FrameRead}
+use Rattle.frame.specs.Answers.{read_answer}
 use Rattle.frame.specs.declared.content.FrameRead.TheVariants as read
-use Rattle.host.specs.Report.{report_of, Parts, read_report, written_report, ReportsRead, ReportsWritten}
-
--- what the reader answered is packed, and so is what the writer answered
-abbrev pub packed_read : FrameRead → ℕ
-packed_read (read.Frame kind sequence n) = report_of 0 kind sequence n no_place
-packed_read (read.Refused n place) = report_of n 0 0 0 place
-
-abbrev pub packed_written : Written → ℕ
-packed_written (written.Length n) = report_of 0 0 0 n no_place
-packed_written (written.Refused n) = report_of n 0 0 0 no_place
-
-pub read_reported : (found : content.Read) (output : List ℕ) (answer : FrameRead) (exit : List ℕ) (report : ℕ) → ReadsAs found output answer exit
-    → report ≡ packed_read answer → ReportsRead found output report exit
-read_reported found output answer exit report did e =
-    record { reports = e ∙ ap packed_read did.answers ∙ packed found; payload = did.output }
-  where
-    packed : (found : content.Read) → packed_read (read_answer found) ≡ read_report found
-    packed (content.frame kind sequence payload) = refl
-    packed (content.refused n place) = refl
-
-pub written_reported : (result : Output) (output : List ℕ) (answer : Written) (exit : List ℕ) (report : ℕ) → WritesAs result output answer exit
-    → report ≡ packed_written answer → ReportsWritten result output report exit
-written_reported result output answer exit report did e =
-    record { reports = e ∙ ap packed_written did.answers ∙ packed result; frame = did.put }
-  where
-    packed : (result : Output) → packed_written (write_answer result) ≡ written_report result
-    packed (writing.written sent) = refl
-    packed (writing.refused n) = refl
+use Rattle.host.specs.Report.{report_of, Parts}
 
 -- a length that was answered is that of a payload that was read, or of a frame that was written
 pub read_size : (found : content.Read) (k q n limit : ℕ)

@@ -1,5 +1,4 @@
 -- `host::arznavik_frame_check` meets its contract: the reader's answer, packed into a report; a payload's length fits its part.
-use mathlib.Core.Path.{sym, ap, ◌∙◌}
 use native.Mathlib.Omega.{arith}
 use lib.ListN.{length}
 use Rattle.frame.specs.Content.{payload_max}
@@ -7,7 +6,7 @@ use Rattle.frame.specs.Stuffing.{sent_max}
 use Rattle.frame.specs.Reading.{read_frame}
 use Rattle.frame.proofs.FrameTheorems.{read_bounded}
 use Rattle.frame.proofs.RefusalLaws.{reader_place}
-use Rattle.host.proofs.ReportLaws.{packed_read, read_reported, read_size, read_place}
+use Rattle.host.proofs.ReportLaws.{read_size, read_place}
 use Rattle.host.proofs.arznavik_frame_check.Goals as goal
 
 pub report-requires : goal.report-requires
@@ -21,10 +20,3 @@ report-requires-in-Frame c =
     let answers = c.in-Frame.ensures.answers in
     let small = read_size (read_frame (length c.args.output.now) c.args.bytes.now) _ _ _ payload_max (read_bounded _ _) answers in
     (omega (arith, small), omega arith)
-
-pub returns-in-Refused : goal.returns-in-Refused
-returns-in-Refused c = read_reported _ _ _ _ _ c.read_frame.ensures (c.report.ensures ∙ ap packed_read (sym c.in-Refused.is))
-
-pub returns-in-Frame : goal.returns-in-Frame
-returns-in-Frame c =
-    read_reported _ _ _ _ _ c.read_frame.ensures (c.report-in-Frame.ensures ∙ ap packed_read (sym c.in-Frame.is))

@@ -1,12 +1,11 @@
 -- `host::arznavik_frame_write` meets its contract: the writer's answer, packed into a report; a frame's length fits its part.
-use mathlib.Core.Path.{sym, ap, ◌∙◌}
 use Prim.Native.Nat.{◌+◌, ◌*◌}
 use native.Mathlib.Omega.{arith}
 use lib.ListN.{length}
 use Rattle.frame.specs.Stuffing.{content_max}
 use Rattle.frame.specs.Writing.{write_frame}
 use Rattle.frame.proofs.FrameTheorems.{written_bounded}
-use Rattle.host.proofs.ReportLaws.{packed_written, written_reported, write_size}
+use Rattle.host.proofs.ReportLaws.{write_size}
 use Rattle.host.proofs.arznavik_frame_write.Goals as goal
 
 pub report-requires-in-Length : goal.report-requires-in-Length
@@ -16,11 +15,3 @@ report-requires-in-Length c =
     let bounded = written_bounded room c.args.kind c.args.sequence c.args.payload.now in
     let small = write_size (write_frame room c.args.kind c.args.sequence c.args.payload.now) _ (2 + 2 * content_max) bounded answers in
     (omega (arith, small), omega arith)
-
-pub returns-in-Refused : goal.returns-in-Refused
-returns-in-Refused c =
-    written_reported _ _ _ _ _ c.write_frame.ensures (c.report.ensures ∙ ap packed_written (sym c.in-Refused.is))
-
-pub returns-in-Length : goal.returns-in-Length
-returns-in-Length c =
-    written_reported _ _ _ _ _ c.write_frame.ensures (c.report-in-Length.ensures ∙ ap packed_written (sym c.in-Length.is))

@@ -1,50 +1,18 @@
--- `same_bytes` answers true exactly for equal lists, and it goes element by element.
-use mathlib.Core.Path.{◌≡◌, refl, ap, ap₂, ◌∙◌}
+-- `same_bytes` answers as `==` does: true exactly for equal lists.
+use mathlib.Core.Path.{◌≡◌, refl, sym, ap, ◌∙◌}
 use mathlib.Core.Bool.{Bool, true, false, cond, ◌&&◌}
 use mathlib.Core.List.{List, [], ◌∷◌}
-use Prim.Native.Nat.{ℕ, suc}
+use Prim.Native.Nat.{ℕ}
 use lib.Dec.{eqb}
 use lib.ListN.{length}
-use borrow.Author.Tests.{eqb-true, eq-eqb}
 use Rattle.std.specs.Cmp.Lexicographic.{pointwise}
-use Rattle.slices.proofs.Impossible.{impossible}
+use Rattle.std.proofs.lemmas.Bool.{false_from_ne_true}
+use Rattle.std.proofs.lemmas.Slice.Eq.{bytes_eq-Decides}
 use Rattle.slices.specs.Same.{same_bytes}
 
-never : (t u : Bool) → u ≡ false → cond t u false ≡ false
-never true u e = e
-never false u e = refl
-
-record Both (t u : Bool) : Type 0 where
-  first : t ≡ true
-  second : u ≡ true
-
-both : (t u : Bool) → cond t u false ≡ true → Both t u
-both true u h = record { first = refl; second = h }
-both false u h = impossible cc
-
--- lists of different lengths are not the same
-pub same_lengths : (a b : List ℕ) → (length a ≡ length b → ⊥) → same_bytes a b ≡ false
-unfolding same_bytes
-same_lengths [] [] h = absurd (h refl)
-same_lengths [] (y ∷ ys) h = refl
-same_lengths (x ∷ xs) [] h = refl
-same_lengths (x ∷ xs) (y ∷ ys) h = never (eqb x y) (same_bytes xs ys) (same_lengths xs ys (λ e. h (ap suc e)))
-
--- the answer true says that the lists are equal
-pub same_equal : (a b : List ℕ) → same_bytes a b ≡ true → a ≡ b
-unfolding same_bytes
-same_equal [] [] h = refl
-same_equal [] (y ∷ ys) h = impossible cc
-same_equal (x ∷ xs) [] h = impossible cc
-same_equal (x ∷ xs) (y ∷ ys) h =
-    let b : Both (eqb x y) (same_bytes xs ys) = both (eqb x y) (same_bytes xs ys) h in
-    ap₂ (λ (p : ℕ) (q : List ℕ). p ∷ q) (eqb-true x y b.first) (same_equal xs ys b.second)
-
--- and equal lists get it
-pub same_refl : (a : List ℕ) → same_bytes a a ≡ true
-unfolding same_bytes
-same_refl [] = refl
-same_refl (x ∷ xs) = rw (eq-eqb x x refl) (same_refl xs)
+both : (t u : Bool) → (t && u) ≡ cond t u false
+both true u = refl
+both false u = refl
 
 -- what `==` answers of two slices
 pub same_pointwise : (a b : List ℕ) → pointwise eqb a b ≡ same_bytes a b
@@ -52,8 +20,16 @@ unfolding same_bytes
 same_pointwise [] [] = refl
 same_pointwise [] (y ∷ ys) = refl
 same_pointwise (x ∷ xs) [] = refl
-same_pointwise (x ∷ xs) (y ∷ ys) = joined (eqb x y) ∙ ap (λ (rest : Bool). cond (eqb x y) rest false) (same_pointwise xs ys)
-  where
-    joined : (t : Bool) → (t && pointwise eqb xs ys) ≡ cond t (pointwise eqb xs ys) false
-    joined true = refl
-    joined false = refl
+same_pointwise (x ∷ xs) (y ∷ ys) = ap (λ (rest : Bool). eqb x y && rest) (same_pointwise xs ys) ∙ both (eqb x y) (same_bytes xs ys)
+
+-- the answer true says that the lists are equal
+pub same_equal : (a b : List ℕ) → same_bytes a b ≡ true → a ≡ b
+same_equal a b h = (bytes_eq-Decides a b).0 (same_pointwise a b ∙ h)
+
+-- and equal lists get it
+pub same_refl : (a : List ℕ) → same_bytes a a ≡ true
+same_refl a = sym (same_pointwise a a) ∙ (bytes_eq-Decides a a).1 refl
+
+-- lists of different lengths are not the same
+pub same_lengths : (a b : List ℕ) → (length a ≡ length b → ⊥) → same_bytes a b ≡ false
+same_lengths a b h = false_from_ne_true (same_bytes a b) (λ e. h (ap length (same_equal a b e)))

@@ -6,11 +6,11 @@ use mathlib.Core.List.{List, [], ◌∷◌, ◌++◌}
 use Prim.Native.Nat.{ℕ, suc, ◌*◌, ◌≤◌, ◌<◌}
 use native.Mathlib.Nat.{mod-eq_of_lt}
 use native.Mathlib.Omega.{arith}
-use lib.Bits.{bit_xor, xor_shifted, xor_zero_r}
+use lib.Bits.{bit_xor, xor_shifted, xor_zero_r, xor_assoc}
 use lib.ListN.{length}
 use Rattle.slices.specs.Bits.{low_bits, bits_of, Bytes}
 use Rattle.slices.proofs.DigitLaws.{digit, in_digits, digits_small, digits_up, low_length, low_digits}
-use Rattle.slices.proofs.XorLaws.{xor_assoc, xor_added}
+use Rattle.slices.proofs.XorLaws.{xor_added}
 use Rattle.crc.specs.Crc.{shift_bit, shift_bits, add_byte, crc_of}
 use Rattle.crc.proofs.CrcLaws.{shift_low}
 use Rattle.crc.proofs.LinearLaws.{shift_xor}

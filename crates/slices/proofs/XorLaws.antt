@@ -1,48 +1,10 @@
 -- The laws of the exclusive-or that `lib.Bits` does not have. They hold of all numbers, whatever their size, so what is built on them needs
 -- no bound.
-use mathlib.Core.Path.{◌≡◌, refl, sym, ap, ap₂, ◌∙◌}
-use Prim.Native.Nat.{ℕ, zero, suc, ◌*◌, ◌/◌, ◌%◌, ◌^◌, ◌<◌}
+use mathlib.Core.Path.{◌≡◌, sym, ap, ap₂, ◌∙◌}
+use Prim.Native.Nat.{ℕ, ◌*◌, ◌^◌}
 use native.Mathlib.Nat.{add-zero}
-use native.Mathlib.Omega.{arith}
-use lib.Arith.{bin_ind, digits_mod}
-use lib.Bits.{bit_xor, differ, xor_step, xor_shr, xor_comm, xor_block, xor_self, xor_zero_l, xor_zero_r}
+use lib.Bits.{bit_xor, xor_assoc, xor_comm, xor_block, xor_self, xor_zero_l, xor_zero_r}
 use lib.Pow.{pow_pos}
-
--- the exclusive-or of two binary digits is a digit, and of three it does not matter which two are taken first
-differ_digit : (x y : ℕ) → x < 2 → y < 2 → differ x y < 2
-differ_digit zero y h k = k
-differ_digit (suc zero) zero h k = h
-differ_digit (suc zero) (suc zero) h k = omega arith
-differ_digit (suc zero) (suc (suc y)) h k = absurd (omega arith)
-differ_digit (suc (suc x)) y h k = absurd (omega arith)
-
-differ_assoc : (x y z : ℕ) → x < 2 → y < 2 → z < 2 → differ (differ x y) z ≡ differ x (differ y z)
-differ_assoc zero y z h k l = refl
-differ_assoc (suc zero) zero z h k l = refl
-differ_assoc (suc zero) (suc zero) zero h k l = refl
-differ_assoc (suc zero) (suc zero) (suc zero) h k l = refl
-differ_assoc (suc zero) (suc zero) (suc (suc z)) h k l = absurd (omega arith)
-differ_assoc (suc zero) (suc (suc y)) z h k l = absurd (omega arith)
-differ_assoc (suc (suc x)) y z h k l = absurd (omega arith)
-
--- the last digit of an exclusive-or, and the digits before it
-last_digit : (a b : ℕ) → bit_xor a b % 2 ≡ differ (a % 2) (b % 2)
-last_digit a b =
-    ap (λ (x : ℕ). x % 2) (xor_step a b)
-    ∙ digits_mod (bit_xor (a / 2) (b / 2)) (differ_digit (a % 2) (b % 2) (omega arith) (omega arith))
-
-digits_before : (a b : ℕ) → bit_xor a b / 2 ≡ bit_xor (a / 2) (b / 2)
-digits_before a b = xor_shr a b 1
-
-pub xor_assoc : (a b c : ℕ) → bit_xor (bit_xor a b) c ≡ bit_xor a (bit_xor b c)
-xor_assoc = bin_ind (λ (n : ℕ). (b c : ℕ) → bit_xor (bit_xor n b) c ≡ bit_xor n (bit_xor b c)) (λ b c. refl) step
-  where
-    step : (n : ℕ) → ((b c : ℕ) → bit_xor (bit_xor (n / 2) b) c ≡ bit_xor (n / 2) (bit_xor b c)) → (b c : ℕ)
-        → bit_xor (bit_xor n b) c ≡ bit_xor n (bit_xor b c)
-    step n rest b c =
-        let digit = differ_assoc (n % 2) (b % 2) (c % 2) (omega arith) (omega arith) (omega arith) in
-        rw
-        (xor_step (bit_xor n b) c, xor_step n (bit_xor b c), digits_before n b, digits_before b c, last_digit n b, last_digit b c, rest (b / 2) (c / 2), digit)
 
 -- the two in the middle change places
 pub xor_swap : (a b c d : ℕ) → bit_xor (bit_xor a b) (bit_xor c d) ≡ bit_xor (bit_xor a c) (bit_xor b d)

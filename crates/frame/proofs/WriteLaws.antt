@@ -1,7 +1,7 @@
 -- A frame is written in parts: flag, stuffed parts of the content one behind the other, flag.
 use mathlib.Core.Path.{◌≡◌, ap, ◌∙◌}
 use mathlib.Core.List.{List, [], ◌∷◌, ◌++◌}
-use Prim.Native.Nat.{ℕ, suc, ◌+◌, ◌*◌, ◌≤◌, ◌<◌}
+use Prim.Native.Nat.{ℕ, suc, ◌+◌, ◌≤◌, ◌<◌}
 use native.Mathlib.Omega.{arith}
 use lib.ListN.{length, set, length-append}
 use borrow.Author.Tests.{lt-ltb, le-ltb}
@@ -13,10 +13,9 @@ use Rattle.slices.proofs.PutLaws.{put_append}
 use Rattle.slices.proofs.WrittenLaws.{too_little_room, room_enough}
 use Rattle.crc.specs.Crc.{link_start, crc_of, check_bytes}
 use Rattle.crc.proofs.CrcLaws.{crc_append}
-use Rattle.frame.specs.Stuffing.{flag_byte, content_max, stuff_byte, stuff}
+use Rattle.frame.specs.Stuffing.{flag_byte, stuff_byte, stuff}
 use Rattle.frame.specs.Content.{payload_max, content_of}
 use Rattle.frame.specs.Writing.{framed, write_content, write_frame}
-use Rattle.frame.proofs.StuffLaws.{length_stuff}
 
 -- the check over the whole body goes on from that of its first two bytes
 pub content_parts : (kind sequence : ℕ) (payload : List ℕ)
@@ -36,31 +35,12 @@ length_framed content =
     let closing : length (stuff content ++ (flag_byte ∷ [])) ≡ length (stuff content) + 1 = length-append (stuff content) (flag_byte ∷ []) in
     ap suc closing ∙ omega arith
 
-framed_length : (a b c : List ℕ)
+pub framed_length : (a b c : List ℕ)
     → length (framed (a ++ b ++ c)) ≡ 2 + length (stuff a) + length (stuff b) + length (stuff c)
 framed_length a b c =
     let all = ap length (stuff_parts a b c) ∙ length-append (stuff a ++ stuff b) (stuff c) in
     let two = length-append (stuff a) (stuff b) in
     length_framed (a ++ b ++ c) ∙ omega (arith, all, two)
-
--- the three stuffed lengths, and that they are small
-pub record Sizes (head payload tail : List ℕ) (n m k : ℕ) : Type 0 where
-  pub of_head : n ≡ length (stuff head)
-  pub of_payload : m ≡ length (stuff payload)
-  pub of_tail : k ≡ length (stuff tail)
-  pub small : n + m + k ≤ 2 * content_max
-  pub whole : length (framed (head ++ payload ++ tail)) ≡ 2 + n + m + k
-
-pub sizes_of : (head payload tail : List ℕ) (n m k : ℕ) → n ≡ length (stuff head) → m ≡ length (stuff payload) → k ≡ length (stuff tail)
-    → length head + length payload + length tail ≤ content_max → Sizes head payload tail n m k
-sizes_of head payload tail n m k e f g h =
-    record {
-      of_head = e;
-      of_payload = f;
-      of_tail = g;
-      small = omega (arith, length_stuff head, length_stuff payload, length_stuff tail);
-      whole = omega (arith, framed_length head payload tail);
-    }
 
 -- the stores of the parts, one behind the other, are the whole frame put at the start
 pub assembled : (out a b c : List ℕ) (at_b at_c end : ℕ) (one two three : List ℕ)

@@ -1,5 +1,5 @@
 // The frame writer.
-ghost use Rattle.std.specs.Prelude.{◌≡◌, ◌+◌, ◌≤◌, [], ◌∷◌, ◌++◌, length};
+ghost use Rattle.std.specs.Prelude.{◌≡◌, ◌+◌, ◌*◌, ◌≤◌, [], ◌∷◌, ◌++◌, length};
 ghost use Rattle.slices.specs.Put.{put_at};
 ghost use Rattle.slices.specs.Written.{WritesAs};
 ghost use Rattle.frame.specs.Stuffing.{escape_byte, content_max, stuff_byte, stuff};
@@ -18,9 +18,7 @@ pub fn write_frame(kind: u8, sequence: u8, payload: &[u8], out: &mut [u8]) -> Wr
         return Written::Refused(LONG_PAYLOAD);
     }
     let check = crc::check(crc::check_pair(CHECK_START, kind, sequence), payload);
-    let head = [kind, sequence];
-    let tail = [(check / 0x100) as u8, (check % 0x100) as u8];
-    put_frame(&head, payload, &tail, out)
+    put_frame(&[kind, sequence], payload, &check.to_be_bytes(), out)
 }
 
 // Writes the frame whose content is the three parts joined, unless `out` has too little room.
@@ -43,15 +41,14 @@ fn put_frame(head: &[u8], payload: &[u8], tail: &[u8], out: &mut [u8]) -> Writte
     Written::Length(length)
 }
 
-// How many bytes `content` has once stuffed.
+// How many bytes `content` has once stuffed: no byte becomes more than two.
 fn stuffed_length(content: &[u8]) -> usize
-    ensures { result ≡ length (stuff content.now) }
+    ensures stuffed { result ≡ length (stuff content.now) }
+    ensures at_most { result ≤ 2 * length content.now }
 {
     let mut total: usize = 0;
-    let mut i: usize = 0;
-    while i < content.len() {
-        total += stuffed_size(content[i]);
-        i += 1;
+    for byte in content {
+        total += stuffed_size(*byte);
     }
     total
 }
@@ -72,10 +69,8 @@ fn put_stuffed(out: &mut [u8], at: usize, content: &[u8]) -> usize
     ensures { (result ≡ at + length (stuff content.now)) × (out.new ≡ put_at out.old at (stuff content.now)) }
 {
     let mut to = at;
-    let mut i: usize = 0;
-    while i < content.len() {
-        to = put_byte(out, to, content[i]);
-        i += 1;
+    for byte in content {
+        to = put_byte(out, to, *byte);
     }
     to
 }
@@ -85,14 +80,14 @@ fn put_byte(out: &mut [u8], at: usize, byte: u8) -> usize
     requires { at + length (stuff_byte byte) ≤ length out.old }
     ensures { (result ≡ at + length (stuff_byte byte)) × (out.new ≡ put_at out.old at (stuff_byte byte)) }
 {
-    if byte == FLAG {
-        return put_pair(out, at, ESCAPED_FLAG);
+    match byte {
+        FLAG => put_pair(out, at, ESCAPED_FLAG),
+        ESCAPE => put_pair(out, at, ESCAPED_ESCAPE),
+        _ => {
+            out[at] = byte;
+            at + 1
+        }
     }
-    if byte == ESCAPE {
-        return put_pair(out, at, ESCAPED_ESCAPE);
-    }
-    out[at] = byte;
-    at + 1
 }
 
 // Puts an escape byte and the byte behind it at the place `at`, and answers the place behind both.

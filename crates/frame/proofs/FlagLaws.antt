@@ -1,23 +1,24 @@
 -- A string is flagged exactly if it has two flags, one first, one last and none between: its first flag behind the first byte
 -- stands at its end.
-use mathlib.Core.Path.{◌≡◌, refl, ap, ◌∙◌}
+use mathlib.Core.Path.{◌≡◌, refl, sym, ap, ◌∙◌}
 use mathlib.Core.Logic.{◌↔◌}
 use mathlib.Core.Bool.{Bool, true, false, cond}
 use mathlib.Core.List.{List, [], ◌∷◌}
 use Prim.Native.Nat.{ℕ, zero, suc, ◌-◌, ◌≤◌, ◌<◌}
 use native.Mathlib.Omega.{arith}
 use lib.Dec.{eqb}
-use lib.ListN.{length, get_or}
+use lib.ListN.{length, get_or, take, drop, length-take, length-drop}
+use Rattle.std.proofs.lemmas.List.{get_or-take, get_or-drop}
 use borrow.Author.Tests.{eqb-true, eqb-false, eq-eqb, ne_eqb}
 use Rattle.slices.proofs.Impossible.{impossible}
 use Rattle.refusals.specs.Numbers.{bad_framing}
 use Rattle.frame.specs.Stuffing.{flag_byte}
 use Rattle.frame.specs.Content.{payload_max, no_place}
-use Rattle.frame.specs.Reading.{first_flag, flagged_bytes}
-use Rattle.frame.specs.Answers.{read_answer}
+use Rattle.frame.specs.Reading.{first_flag, flagged_bytes, read_frame}
+use Rattle.frame.specs.Answers.{ReadsAs}
 use Rattle.frame.specs.declared.content.FrameRead.{FrameRead}
 use Rattle.frame.specs.declared.content.FrameRead.TheVariants as read
-use Rattle.frame.proofs.ReadLaws.{flagged_two, frame_unflagged}
+use Rattle.frame.proofs.ReadLaws.{frame_unflagged, refuses}
 use Rattle.frame.proofs.FrameCalls.{Reads, was_read}
 
 -- the byte at the first flag's place is a flag, and none before it is
@@ -75,7 +76,7 @@ flagged_flags (b ∷ bs) e = cases (eqb b flag_byte) refl e
     cases : (t : Bool) → eqb b flag_byte ≡ t → cond t (eqb (suc (first_flag bs)) (length bs)) false ≡ true → Flags (b ∷ bs)
     cases true f g =
         let next = eqb-true (suc (first_flag bs)) (length bs) g in
-        record { two = flagged_two (b ∷ bs) e; first = eqb-true b flag_byte f; last = at_last next; none_between = between next }
+        record { two = omega arith; first = eqb-true b flag_byte f; last = at_last next; none_between = between next }
     cases false f g = impossible cc
 
 flags_flagged : (s : List ℕ) → Flags s → flagged_bytes s ≡ true
@@ -93,12 +94,43 @@ flags_flagged (b ∷ (c ∷ bs)) f =
 pub flagged_exactly : (s : List ℕ) → (flagged_bytes s ≡ true) ↔ Flags s
 flagged_exactly s = (flagged_flags s, flags_flagged s)
 
+-- what the reader's tests tell: no flag in the part between the ends, or one there
+module _ (bytes : List ℕ) where
+  abbrev part : List ℕ
+  part = take (length bytes - 1 - 1) (drop 1 bytes)
+
+  in_part : (k : ℕ) → k < length bytes - 1 - 1 → get_or part k 0 ≡ get_or bytes (suc k) 0
+  in_part k h = get_or-take (length bytes - 1 - 1) (drop 1 bytes) k 0 h ∙ get_or-drop 1 bytes k 0 ∙ ap (λ (i : ℕ). get_or bytes i 0) (omega arith)
+
+  part_length : length part ≡ length bytes - 1 - 1
+  part_length = simp (length-take, length-drop) (omega arith)
+
+  pub flags_none : 2 ≤ length bytes → get_or bytes 0 0 ≡ flag_byte → get_or bytes (length bytes - 1) 0 ≡ flag_byte
+      → ((k d : ℕ) → 0 ≤ k → k < length part → eqb (get_or part k d) flag_byte ≡ false) → flagged_bytes bytes ≡ true
+  flags_none two first last none = flags_flagged bytes (record { two = two; first = first; last = last; none_between = between_ends })
+    where
+      between_ends : (i : ℕ) → 0 < i → i < length bytes - 1 → get_or bytes i 0 ≡ flag_byte → ⊥
+      between_ends zero h k e = omega arith
+      between_ends (suc i) h k e =
+          let within : i < length bytes - 1 - 1 = omega arith in
+          eqb-false (get_or part i 0) flag_byte (none i 0 (omega arith) (omega (arith, part_length))) (in_part i within ∙ e)
+
+  pub flags_some : (k : ℕ) × (k < length part) × ((d : ℕ) → eqb (get_or part k d) flag_byte ≡ true) → Flags bytes → ⊥
+  flags_some (k, within, is) f =
+      let h : k < length bytes - 1 - 1 = omega (arith, part_length) in
+      f.none_between (suc k) (omega arith) (omega arith) (sym (in_part k h) ∙ eqb-true (get_or part k 0) flag_byte (is 0))
+
+  -- bytes without such flags are refused, which leaves the output as it was
+  pub unflagged_read : (out : List ℕ) → payload_max ≤ length out → (Flags bytes → ⊥)
+      → ReadsAs (read_frame (length out) bytes) out (read.Refused bad_framing no_place) out
+  unflagged_read out room wrong = cases (flagged_bytes bytes) refl
+    where
+      cases : (t : Bool) → flagged_bytes bytes ≡ t → ReadsAs (read_frame (length out) bytes) out (read.Refused bad_framing no_place) out
+      cases true e = absurd (wrong (flagged_flags bytes e))
+      cases false e = refuses _ bad_framing no_place out (frame_unflagged (length out) bytes room e)
+
 -- THEOREM. A call of `read_frame` with an output of at least 383 bytes refuses bytes without such flags with 1,
 -- and the place is 0.
 pub unflagged_refused : (bytes out : List ℕ) (answer : FrameRead) (after : List ℕ) → Reads bytes out answer after → payload_max ≤ length out
     → (Flags bytes → ⊥) → answer ≡ read.Refused bad_framing no_place
-unflagged_refused bytes out answer after r asked wrong = cases (flagged_bytes bytes) refl
-  where
-    cases : (t : Bool) → flagged_bytes bytes ≡ t → answer ≡ read.Refused bad_framing no_place
-    cases true e = absurd (wrong (flagged_flags bytes e))
-    cases false e = (was_read r).answers ∙ ap read_answer (frame_unflagged (length out) bytes asked e)
+unflagged_refused bytes out answer after r asked wrong = (was_read r).answers ∙ sym (unflagged_read bytes out asked wrong).answers

@@ -1,7 +1,7 @@
 // The reader of one whole frame: its flags first, then what stands between them.
-ghost use Rattle.std.specs.Prelude.{◌≡◌, ◌+◌, length, drop};
+ghost use Rattle.std.specs.Prelude.{length};
 ghost use Rattle.frame.specs.Content.{judged};
-ghost use Rattle.frame.specs.Reading.{flagged_bytes, first_flag, read_run, read_frame};
+ghost use Rattle.frame.specs.Reading.{read_run, read_frame};
 ghost use Rattle.frame.specs.Answers.{ReadsAs};
 
 use crate::content::{FrameRead, judge};
@@ -20,14 +20,13 @@ pub fn read_frame(bytes: &[u8], out: &mut [u8]) -> FrameRead
             place: NO_PLACE,
         };
     }
-    if !flagged(bytes) {
-        return FrameRead::Refused {
+    match bytes {
+        [FLAG, run @ .., FLAG] if !run.contains(&FLAG) => read_run(run, out),
+        _ => FrameRead::Refused {
             number: BAD_FRAMING,
             place: NO_PLACE,
-        };
+        },
     }
-    let last = bytes.len() - 1;
-    read_run(&bytes[1..last], out)
 }
 
 // Reads the sent bytes between two flags.
@@ -48,42 +47,10 @@ fn hand_out(content: &[u8], out: &mut [u8]) -> FrameRead
     let read = judge(content);
     match read {
         FrameRead::Refused { .. } => read,
-        FrameRead::Frame {
-            kind: _,
-            sequence: _,
-            length,
-        } => {
+        FrameRead::Frame { length, .. } => {
             let end = length + HEADER_SIZE;
             slices::put(out, 0, &content[HEADER_SIZE..end]);
             read
         }
     }
-}
-
-// Whether the bytes have a flag first, a flag last and none between.
-fn flagged(bytes: &[u8]) -> bool
-    ensures { result ≡ flagged_bytes bytes.now }
-{
-    if bytes.len() < 2 {
-        return false;
-    }
-    if bytes[0] != FLAG {
-        return false;
-    }
-    let last = bytes.len() - 1;
-    first_flag(bytes, 1) == last
-}
-
-// The place of the first flag from the place `from` on, or the length where there is none.
-fn first_flag(bytes: &[u8], from: usize) -> usize
-    ensures { result ≡ from + first_flag (drop from bytes.now) }
-{
-    let mut i = from;
-    while i < bytes.len() {
-        if bytes[i] == FLAG {
-            return i;
-        }
-        i += 1;
-    }
-    i
 }

@@ -1,34 +1,15 @@
--- So many sent bytes settle the verdict of a run, whatever follows: each byte of content takes at most two, and the 388th is refused.
-use mathlib.Core.Path.{◌≡◌, refl, ap}
+-- A fault is met within so many sent bytes: each byte of content takes at most two, and the 388th is refused.
+use mathlib.Core.Path.{◌≡◌, refl}
 use mathlib.Core.Bool.{Bool, true, false, cond}
 use mathlib.Core.List.{List, [], ◌∷◌}
-use Prim.Native.Nat.{ℕ, zero, suc, ◌+◌, ◌-◌, ◌*◌, ◌≤◌, ◌<◌, min}
+use Prim.Native.Nat.{ℕ, suc, ◌+◌, ◌*◌, ◌≤◌, ◌<◌}
 use native.Mathlib.Omega.{arith}
 use lib.Dec.{eqb, ltb}
-use lib.ListN.{length, take}
 use borrow.Author.Tests.{ltb-true}
 use Rattle.refusals.specs.Numbers.{long_content}
 use Rattle.slices.proofs.Impossible.{impossible}
-use Rattle.slices.specs.Put.{put_at}
-use Rattle.slices.proofs.PutLaws.{put_fitting}
 use Rattle.frame.proofs.BoundLaws.{joined_refused}
 use Rattle.frame.specs.Stuffing.{State, plain, escaped, Meaning, escapes_next, stands_for, faulty, meaning, Unstuffed, refused, joined, taken, content_max, sent_max, unstuff_from, unstuff}
-
--- how many they are, with `held` bytes of content before them
-abbrev Enough : State → ℕ → ℕ → Type 0
-Enough plain held n = 2 * (suc content_max - held) ≤ n
-Enough escaped held n = 2 * (suc content_max - held) ≤ n + 1
-
-taken_alike : (m : Meaning) (held place : ℕ) (f g : State → ℕ → Unstuffed) → (m ≡ escapes_next → f escaped held ≡ g escaped held)
-    → (held < content_max → f plain (suc held) ≡ g plain (suc held)) → taken m held place f ≡ taken m held place g
-taken_alike escapes_next held place f g escape byte = escape refl
-taken_alike (stands_for v) held place f g escape byte = cases (ltb held content_max) refl
-  where
-    cases : (t : Bool) → ltb held content_max ≡ t
-        → cond t (joined v (f plain (suc held))) (refused long_content place) ≡ cond t (joined v (g plain (suc held))) (refused long_content place)
-    cases true e = ap (joined v) (byte (ltb-true held content_max e))
-    cases false e = refl
-taken_alike faulty held place f g escape byte = refl
 
 pub no_escape : (b : ℕ) → meaning escaped b ≡ escapes_next → ⊥
 no_escape b e = cases (eqb b 0x5e) (eqb b 0x5d) e
@@ -38,23 +19,7 @@ no_escape b e = cases (eqb b 0x5e) (eqb b 0x5d) e
     cases false true e = impossible cc
     cases false false e = impossible cc
 
-take_enough : (s : State) (held place n : ℕ) (bytes : List ℕ) → held ≤ content_max → Enough s held n
-    → unstuff_from s held place (take n bytes) ≡ unstuff_from s held place bytes
-unfolding unstuff_from
-take_enough s held place zero [] h e = refl
-take_enough s held place (suc n) [] h e = refl
-take_enough plain held place zero (b ∷ bs) h e = absurd (omega arith)
-take_enough escaped held place zero (b ∷ bs) h e = absurd (omega arith)
-take_enough plain held place (suc n) (b ∷ bs) h e =
-    taken_alike (meaning plain b) held (suc place) (λ s₁ held₁. unstuff_from s₁ held₁ (suc place) (take n bs)) (λ s₁ held₁. unstuff_from s₁ held₁ (suc place) bs)
-    (λ f. take_enough escaped held (suc place) n bs h (omega arith))
-    (λ room. take_enough plain (suc held) (suc place) n bs room (omega arith))
-take_enough escaped held place (suc n) (b ∷ bs) h e =
-    taken_alike (meaning escaped b) held (suc place) (λ s₁ held₁. unstuff_from s₁ held₁ (suc place) (take n bs)) (λ s₁ held₁. unstuff_from s₁ held₁ (suc place) bs)
-    (λ f. absurd (no_escape b f))
-    (λ room. take_enough plain (suc held) (suc place) n bs room (omega arith))
-
--- and a fault is met within them
+-- with `held` bytes of content before it
 abbrev Within : State → ℕ → ℕ → ℕ → Type 0
 Within plain held before place = place + 2 * held ≤ before + sent_max
 Within escaped held before place = place + 2 * held < before + sent_max
@@ -106,10 +71,3 @@ refused_within escaped held before (b ∷ bs) n place h e =
 pub place_within : (run : List ℕ) (n place : ℕ) → unstuff run ≡ refused n place → place ≤ sent_max
 unfolding unstuff
 place_within run n place e = let within = refused_within plain 0 0 run n place (omega arith) e in omega arith
-
--- the array of sent bytes has all that matters of a run
-pub sent_enough : (run array : List ℕ) → length array ≡ sent_max
-    → unstuff_from plain 0 0 (take (min (length run) sent_max) (put_at array 0 run)) ≡ unstuff run
-unfolding unstuff
-sent_enough run array full =
-    rw (← full, put_fitting array run, full) (take_enough plain 0 0 sent_max run (omega arith) (omega arith))

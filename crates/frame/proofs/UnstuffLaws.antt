@@ -1,16 +1,17 @@
--- One byte of unstuffing, one law for each way that a reader goes: at the end, and by what the first byte means.
-use mathlib.Core.Path.{◌≡◌, refl}
-use mathlib.Core.List.{List, ◌∷◌}
+-- Unstuffing from the left, one law for each way that a reader goes: at the end, and by what the first byte means, or the first two.
+use mathlib.Core.Path.{◌≡◌, refl, ap}
+use mathlib.Core.List.{List, [], ◌∷◌}
 use mathlib.Core.Bool.{Bool, true, false}
-use Prim.Native.Nat.{ℕ, suc, ◌+◌, ◌≤◌, ◌<◌}
+use Prim.Native.Nat.{ℕ, suc, ◌+◌, ◌≤◌}
 use native.Mathlib.Numerals.{add-one}
 use native.Mathlib.Omega.{arith}
-use lib.ListN.{length, take, drop, get_or, length-take, drop_of_length-le}
-use lib.Seq.{drop-cons, get_or-take}
+use lib.ListN.{length}
 use lib.Dec.{eqb}
-use borrow.Author.Tests.{eq-eqb, ne_eqb, eqb-true, eqb-false, lt-ltb, le-ltb}
-use Rattle.refusals.specs.Numbers.{bad_framing, long_content}
-use Rattle.frame.specs.Stuffing.{State, plain, escaped, escapes_next, stands_for, faulty, meaning, refused, joined, closed, content_max, unstuff_from}
+use borrow.Author.Tests.{eq-eqb, ne_eqb, eqb-true, eqb-false}
+use Rattle.refusals.specs.Numbers.{bad_framing}
+use Rattle.frame.specs.Stuffing.{escape_byte, escaped_flag, escaped_escape, plain, escaped, escapes_next, stands_for, faulty, meaning, refused, unstuff_from}
+use Rattle.frame.specs.Places.{after_escape}
+use Rattle.frame.specs.ReaderSteps.{IsFaulty, StandsFor}
 
 -- what a byte means in the plain state
 pub plain_escape : (b : ℕ) → b ≡ 0x7d → meaning plain b ≡ escapes_next
@@ -33,38 +34,40 @@ escaped_byte b low high = cases (eqb b 0x5e) refl
 pub escaped_fault : (b : ℕ) → (b ≡ 0x5e → ⊥) → (b ≡ 0x5d → ⊥) → meaning escaped b ≡ faulty
 escaped_fault b ne nd = rw (ne_eqb b 0x5e ne, ne_eqb b 0x5d nd)
 
--- the byte at a place, and the sent bytes behind it
-left : (sent : List ℕ) (count at : ℕ) → count ≤ length sent → at < count
-    → drop at (take count sent) ≡ get_or sent at 0 ∷ drop (at + 1) (take count sent)
-left sent count at fits h =
-    let inside : at < length (take count sent) = simp length-take (omega arith) in
-    rw (add-one, drop-cons (take count sent) at 0 inside, get_or-take count sent at 0 h)
+-- a byte that is no escape byte stands for itself
+pub stands_plain : (first : ℕ) (behind : List ℕ) → (first ≡ escape_byte → ⊥) → StandsFor first behind first behind
+unfolding unstuff_from
+stands_plain first behind ne =
+    record {
+      fits = omega arith;
+      gives = λ held before place there.
+          let next : suc before ≡ place = omega arith in
+          rw (plain_byte first ne, next) (simp add-one);
+    }
 
-module _ (s : State) (held : ℕ) (sent : List ℕ) (count at : ℕ) where
-  pub unstuff_end : count ≤ at → unstuff_from s held at (drop at (take count sent)) ≡ closed s (at + 1)
-  unfolding unstuff_from
-  unstuff_end h =
-      let all : length (take count sent) ≤ at = simp length-take (omega arith) in
-      rw (add-one, drop_of_length-le (take count sent) all)
+-- an escape byte and 5e or 5d for a flag or an escape byte
+pub stands_pair : (first code : ℕ) (sent behind : List ℕ) → first ≡ escape_byte → sent ≡ code ∷ behind → 0x5d ≤ code → code ≤ 0x5e
+    → StandsFor first sent (code + 0x20) behind
+unfolding unstuff_from
+stands_pair first code sent behind e split low high =
+    rw split (record {
+      fits = omega arith;
+      gives = λ held before place there.
+          let next : suc (suc before) ≡ place = omega arith in
+          rw (e, escaped_byte code low high, next) (simp add-one);
+    })
 
-  module _ (fits : count ≤ length sent) (h : at < count) where
-    pub unstuff_escape : meaning s (get_or sent at 0) ≡ escapes_next
-        → unstuff_from s held at (drop at (take count sent)) ≡ unstuff_from escaped held (at + 1) (drop (at + 1) (take count sent))
-    unfolding unstuff_from
-    unstuff_escape e = rw (left sent count at fits h, e, add-one)
+-- an escape byte that neither 5d nor 5e follows
+pub escape_refused : (held before : ℕ) (behind : List ℕ) → (after_escape behind ≡ escaped_flag → ⊥) → (after_escape behind ≡ escaped_escape → ⊥)
+    → unstuff_from plain held before (escape_byte ∷ behind) ≡ refused bad_framing (before + 2)
+unfolding unstuff_from
+escape_refused held before [] no_flag no_escape = ap (refused bad_framing) (omega arith)
+escape_refused held before (y ∷ behind) no_flag no_escape = rw (escaped_fault y no_flag no_escape) (ap (refused bad_framing) (omega arith))
 
-    pub unstuff_fault : meaning s (get_or sent at 0) ≡ faulty → unstuff_from s held at (drop at (take count sent)) ≡ refused bad_framing (at + 1)
-    unfolding unstuff_from
-    unstuff_fault e = rw (left sent count at fits h, e, add-one)
+pub faulty_code : (first code : ℕ) (sent behind : List ℕ) → first ≡ escape_byte → sent ≡ code ∷ behind → (code ≡ escaped_flag → ⊥) → (code ≡ escaped_escape → ⊥)
+    → IsFaulty first sent
+faulty_code first code sent behind e split no_flag no_escape = rw (split, e) (record { refuses = λ held before. escape_refused held before (code ∷ behind) no_flag no_escape })
 
-    pub unstuff_byte : (v : ℕ) → meaning s (get_or sent at 0) ≡ stands_for v → held < content_max
-        → unstuff_from s held at (drop at (take count sent)) ≡ joined v (unstuff_from plain (held + 1) (at + 1) (drop (at + 1) (take count sent)))
-    unfolding unstuff_from
-    unstuff_byte v e room =
-        let more : suc held ≡ held + 1 = omega arith in
-        rw (left sent count at fits h, e, lt-ltb held content_max room, more, add-one)
-
-    pub unstuff_full : (v : ℕ) → meaning s (get_or sent at 0) ≡ stands_for v → content_max ≤ held
-        → unstuff_from s held at (drop at (take count sent)) ≡ refused long_content (at + 1)
-    unfolding unstuff_from
-    unstuff_full v e full = rw (left sent count at fits h, e, le-ltb held content_max full, add-one)
+pub faulty_last : (first : ℕ) (sent : List ℕ) → first ≡ escape_byte → length sent ≡ 0 → IsFaulty first sent
+faulty_last first [] e none = rw e (record { refuses = λ held before. escape_refused held before [] (λ f. omega arith) (λ f. omega arith) })
+faulty_last first (b ∷ bs) e none = absurd (omega arith)

@@ -1,9 +1,0 @@
--- The bytes left fall with each call.
-use Rattle.std.proofs.Common.{◌-◌}
-use Rattle.frame.proofs.unstuffing.+read_escaped_read_plain.Given as goal
-
-abbrev pub decreases-read_escaped : goal.decreases-read_escaped
-decreases-read_escaped l = l.count - l.at
-
-abbrev pub decreases-read_plain : goal.decreases-read_plain
-decreases-read_plain l = l.count - l.at

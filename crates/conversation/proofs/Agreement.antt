@@ -6,9 +6,8 @@ use Prim.Native.Nat.{ℕ, suc, ◌≤◌}
 use lib.ListN.{length}
 use Rattle.ash.specs.Stuffing.{payload_max, stuff}
 use Rattle.session.specs.Counters.{of_ours, of_peers}
-use Rattle.session.specs.State.{kept}
+use Rattle.session.specs.State.{Payload, kept}
 use Rattle.session.specs.declared.counters.OFC.{OFC}
-use Rattle.session.specs.declared.state.Payload.{Payload}
 use Rattle.session.specs.declared.state.Held.TheVariants.{Nothing, One, Two}
 use Rattle.session.specs.declared.state.Session.{Session}
 use Rattle.conversation.specs.Ledger.{Ledger, Entry, on_line, held}

@@ -8,9 +8,8 @@ use lib.ListN.{length}
 use Rattle.slices.specs.Put.{put_at}
 use Rattle.slices.proofs.PutLaws.{put_out}
 use Rattle.session.specs.Counters.{of_ours, of_peers}
-use Rattle.session.specs.State.{fresh_session, kept}
+use Rattle.session.specs.State.{Payload, fresh_session, kept}
 use Rattle.session.specs.declared.counters.OFC.{OFC}
-use Rattle.session.specs.declared.state.Payload.{Payload}
 use Rattle.session.specs.Results.{Result, payload_handed, SendsAs, HandsAs}
 use Rattle.session.specs.declared.state.Held.{Held}
 use Rattle.session.specs.declared.state.Answer.{Answer}

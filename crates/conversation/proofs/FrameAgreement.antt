@@ -9,10 +9,9 @@ use Rattle.ash.specs.Stuffing.{payload_max, stuff}
 use Rattle.session.specs.Counters.{of_ours, of_peers}
 use Rattle.session.specs.Frames as session
 use Rattle.session.specs.Frames.{empty_frame, held_frames, repeats_of, sent_bytes, bytes_of}
-use Rattle.session.specs.State.{kept}
+use Rattle.session.specs.State.{Payload, kept}
 use Rattle.session.specs.declared.counters.OFC.{OFC}
 use Rattle.session.specs.declared.control.Kind.{Kind}
-use Rattle.session.specs.declared.state.Payload.{Payload}
 use Rattle.session.specs.declared.state.Held.{Held}
 use Rattle.session.specs.declared.state.Session.{Session}
 use Rattle.session.proofs.FrameLaws.{frame_taken}

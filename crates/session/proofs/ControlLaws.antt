@@ -1,24 +1,20 @@
--- The four types have the numbers 0 to 3, so that type and counters fit one byte.
+-- The four types have their numbers, so that a control byte is read as it was meant.
 use mathlib.Core.Path.{◌≡◌, refl}
-use Prim.Native.Nat.{ℕ, zero, suc, ◌+◌, ◌*◌, ◌/◌, ◌%◌, ◌≤◌, ◌<◌}
+use Prim.Native.Nat.{ℕ, ◌+◌, ◌*◌, ◌/◌, ◌%◌, ◌<◌}
 use native.Mathlib.Omega.{arith}
 use Rattle.session.specs.Control.{kind_number, kind_of, control_byte, control_of}
 use Rattle.session.specs.Counters.{of_ours, of_peers}
+use denote.Enum.Declared.{tag_of}
+use Rattle.session.specs.contracts.control.Kind.{the_type}
 use Rattle.session.specs.declared.control.Kind.{Kind}
 use Rattle.session.specs.declared.control.Kind.TheVariants.{Reset, ResetAck, Ack, Nack}
 
-pub kind_small : (kind : Kind) → kind_number kind ≤ 3
-kind_small Reset = omega arith
-kind_small ResetAck = omega arith
-kind_small Ack = omega arith
-kind_small Nack = omega arith
-
--- 3 is the last of them
-pub kind_last : (number : ℕ) → (number ≡ 0 → ⊥) → (number ≡ 1 → ⊥) → (number ≡ 2 → ⊥) → Nack ≡ kind_of number
-kind_last zero a b c = absurd (a refl)
-kind_last (suc zero) a b c = absurd (b refl)
-kind_last (suc (suc zero)) a b c = absurd (c refl)
-kind_last (suc (suc (suc more))) a b c = refl
+-- the types' numbers in the source
+pub numbered : (kind : Kind) → tag_of the_type kind ≡ kind_number kind
+numbered Reset = refl
+numbered ResetAck = refl
+numbered Ack = refl
+numbered Nack = refl
 
 kind_back : (kind : Kind) → kind_of (kind_number kind) ≡ kind
 kind_back Reset = refl

@@ -6,10 +6,9 @@ use Prim.Native.Nat.{ℕ, ◌+◌, ◌≤◌}
 use native.Mathlib.Omega.{arith}
 use lib.ListN.{length, take, length-append}
 use Rattle.slices.specs.Put.{put_at}
-use Rattle.slices.specs.Written.{Output, written, refused, write_answer, written_bytes, WritesAs}
+use Rattle.slices.specs.Written.{Output, written, refused, written_bytes, WritesAs}
 use Rattle.slices.specs.declared.Written.{Written}
 use Rattle.slices.specs.declared.Written.TheVariants as answer
-use Rattle.slices.proofs.Impossible.{impossible}
 use Rattle.slices.proofs.PutLaws.{put_append, put_told}
 use Rattle.slices.proofs.WrittenLaws.{told}
 use Rattle.ash.specs.Stuffing.{payload_max, stuff}
@@ -50,15 +49,6 @@ module _ (control : ℕ) (payload : List ℕ) where
       let fits = (wrote_frame (length array) control payload t.bytes t.is).fits in
       (rw bytes_are t.size, rw bytes_are (put_told array after t.bytes n t.put t.size fits))
 
-  pub array_unwritten : (array after : List ℕ) (n : ℕ) (result : Written) → length array ≡ frame_max → result ≡ answer.Refused n
-      → WritesAs (write_frame (length array) control payload) array result after → frame_bytes control payload ≡ []
-  unfolding frame_bytes
-  array_unwritten array after n result size is did = rw (← size) (by_output (write_frame (length array) control payload) (sym is ∙ did.answers))
-    where
-      by_output : (o : Output) → answer.Refused n ≡ write_answer o → written_bytes o ≡ []
-      by_output (written bytes) e = impossible cc
-      by_output (refused m) e = refl
-
 -- one frame, and two, one behind the other
 pub put_one : (f : Sent) (output : List ℕ) (at n : ℕ) (output₁ : List ℕ) → n ≡ length (sent_bytes f) → output₁ ≡ put_at output at (sent_bytes f)
     → PutsAs (f ∷ []) output at n output₁
@@ -87,9 +77,12 @@ put_behind fs gs output m n output₁ output₂ first second =
     }
 
 -- at most two frames are sent again
-pub one_short : (f : Sent) → length (bytes_of (f ∷ [])) ≤ frame_max
+one_short : (f : Sent) → length (bytes_of (f ∷ [])) ≤ frame_max
 unfolding bytes_of
 one_short f = rw (append-nil (sent_bytes f)) (frame_short _ f.payload)
+
+pub one_counted : {f : Sent} {output : List ℕ} {at n : ℕ} {output₁ : List ℕ} → PutsAs (f ∷ []) output at n output₁ → n ≤ frame_max
+one_counted {f} did = rw did.counts (one_short f)
 
 repeats_short : (again : Bool) (s : Session) → length (bytes_of (repeats_if again s)) ≤ frame_max + frame_max
 unfolding bytes_of

@@ -1,11 +1,11 @@
 -- 02, C-21: the session's state, and what covers, drops and records do to it.
-use Rattle.std.specs.Prelude.{ℕ, zero, suc, Bool, true, false, cond, List, eqb, length, take, replicate}
-use Rattle.slices.specs.Put.{put_at}
+use Rattle.std.specs.Prelude.{ℕ, zero, suc, Bool, true, false, cond, List, [], eqb}
+use Rattle.slices.specs.FixedBytes.{fixed_of, shown}
+use Rattle.slices.specs.declared.fixed_bytes.FixedBytes.{FixedBytes}
 use Rattle.ash.specs.Stuffing.{payload_max}
 use Rattle.session.specs.Counters.{next_of_peers, of_ours, of_peers}
 use Rattle.session.specs.declared.counters.OFC.{OFC}
 use Rattle.session.specs.declared.counters.AFC.{AFC}
-use Rattle.session.specs.declared.state.Payload.{Payload}
 use Rattle.session.specs.declared.state.Held.{Held}
 use Rattle.session.specs.declared.state.Held.TheVariants.{Nothing, One, Two}
 use Rattle.session.specs.declared.state.Session.{Session}
@@ -15,14 +15,17 @@ abbrev pub output_room : ℕ
 output_room = 135
 
 -- data of a held frame
+abbrev pub Payload : Type 0
+Payload = FixedBytes payload_max
+
 abbrev pub no_payload : Payload
-no_payload = record { length = 0; bytes = replicate payload_max 0 }
+no_payload = fixed_of payload_max []
 
 unfoldable pub payload_of : List ℕ → Payload
-payload_of payload = record { length = length payload; bytes = put_at (replicate payload_max 0) 0 payload }
+payload_of payload = fixed_of payload_max payload
 
 abbrev pub kept : Payload → List ℕ
-kept d = take d.length d.bytes
+kept d = shown d
 
 -- a fresh session stands after our RESET: RESET ACK is awaited
 unfoldable pub fresh_session : Session

@@ -11,6 +11,7 @@ use crate::state::{Held, Outcome, Session, finish};
 
 // Hands up good data, which gets an empty ACK behind the `sent` bytes that are in `output`. Without
 // data there is nothing to hand up.
+#[tactic(auto, unfolding(crate::specs::Frames::bytes_of))]
 pub(crate) fn answer_data(
     session: Session,
     payload: &[u8],
@@ -21,7 +22,7 @@ pub(crate) fn answer_data(
     requires { sent ≤ output_room }
     ensures { AnswersAs session payload.now sent output.old handed.old result output.new handed.new }
 {
-    if payload.len() == 0 {
+    if payload.is_empty() {
         return finish(session, sent, 0, Held::Nothing);
     }
     slices::put(handed, 0, payload);

@@ -1,6 +1,6 @@
 // The control byte: the type of a frame and its two counters.
 ghost use Rattle.std.specs.Prelude.{◌≡◌};
-ghost use Rattle.session.specs.Control.{kind_number, kind_of, control_byte, control_of};
+ghost use Rattle.session.specs.Control.{kind_of, control_byte, control_of};
 
 use crate::counters::{AFC, OFC};
 
@@ -9,13 +9,26 @@ const KIND_UNIT: u8 = 0x40;
 
 const COUNTER_UNIT: u8 = 0x08;
 
-// What the document calls a frame's type.
+// What the document calls a frame's type, with its number there.
 #[derive(Clone, Copy)]
 pub enum Kind {
-    Reset,
-    ResetAck,
-    Ack,
-    Nack,
+    Reset = 0,
+    ResetAck = 1,
+    Ack = 2,
+    Nack = 3,
+}
+
+impl From<u8> for Kind {
+    fn from(number: u8) -> Kind
+        ensures { result ≡ kind_of number }
+    {
+        match number {
+            0 => Kind::Reset,
+            1 => Kind::ResetAck,
+            2 => Kind::Ack,
+            _ => Kind::Nack,
+        }
+    }
 }
 
 // What a control byte of the peer's says: the number of its frame, which is one of the peer's, and
@@ -28,47 +41,27 @@ pub struct Control {
 }
 
 // The control byte of a frame of ours.
+#[tactic(auto, using(crate::proofs::ControlLaws::numbered), unfolding(crate::specs::Control::control_byte))]
 pub(crate) fn control_byte(kind: Kind, ofc: OFC, afc: AFC) -> u8
     ensures { result ≡ control_byte kind ofc afc }
 {
     let outgoing = ofc.0 % COUNTER_UNIT * COUNTER_UNIT;
     let acknowledged = afc.0 % COUNTER_UNIT;
-    kind_number(kind) * KIND_UNIT + outgoing + acknowledged
-}
-
-fn kind_number(kind: Kind) -> u8
-    ensures { result ≡ kind_number kind }
-{
-    match kind {
-        Kind::Reset => 0,
-        Kind::ResetAck => 1,
-        Kind::Ack => 2,
-        Kind::Nack => 3,
-    }
+    kind as u8 * KIND_UNIT + outgoing + acknowledged
 }
 
 // Reads a control byte of the peer's: its outgoing counter numbers frames of the peer's, its
 // acknowledgement counter frames of ours.
+#[tactic(auto, unfolding(crate::specs::Control::control_of))]
 pub(crate) fn read_control(byte: u8) -> Control
     ensures { result ≡ control_of byte }
 {
-    let kind = kind_of(byte / KIND_UNIT);
+    let kind = Kind::from(byte / KIND_UNIT);
     let number = AFC(byte / COUNTER_UNIT % COUNTER_UNIT);
     let acknowledged = OFC(byte % COUNTER_UNIT);
     Control {
         kind,
         number,
         acknowledged,
-    }
-}
-
-fn kind_of(number: u8) -> Kind
-    ensures { result ≡ kind_of number }
-{
-    match number {
-        0 => Kind::Reset,
-        1 => Kind::ResetAck,
-        2 => Kind::Ack,
-        _ => Kind::Nack,
     }
 }

@@ -15,20 +15,21 @@ use refusals::{BAD_LENGTH, RESET_ACK_AWAITED, SHORT_OUTPUT, TWO_FRAMES_HELD};
 
 // Our RESET, allowed at any time: what is held is dropped, and the RESET ACK is awaited, anew too.
 // An output of under 135 bytes is refusal 7, here and in the other events.
+#[tactic(auto, unfolding(crate::specs::Events::reset_of, crate::specs::Frames::bytes_of))]
 pub fn reset(session: Session, output: &mut [u8]) -> Outcome
     ensures { SendsAs session (reset_of session (length output.old)) output.old result output.new }
 {
     if output.len() < OUTPUT_ROOM {
         return refuse(session, SHORT_OUTPUT);
     }
-    let dropped = session.held;
     let next = restart(session, AFC(NONE), true);
     let sent = put_empty(Kind::Reset, next, output, 0);
-    finish(next, sent, 0, dropped)
+    finish(next, sent, 0, session.held)
 }
 
 // Sends data in an ACK of the next number, and holds it. While RESET ACK is awaited this is refusal
 // 28, with two frames held 29, for data that is empty or over 57 bytes as sent 22.
+#[tactic(auto, unfolding(crate::specs::Events::send_of, crate::specs::Frames::bytes_of))]
 pub fn send(session: Session, payload: &[u8], output: &mut [u8]) -> Outcome
     ensures { SendsAs session (send_of session payload.now (length output.old)) output.old result output.new }
 {
@@ -38,11 +39,10 @@ pub fn send(session: Session, payload: &[u8], output: &mut [u8]) -> Outcome
     if session.awaiting {
         return refuse(session, RESET_ACK_AWAITED);
     }
-    let held = session.held;
-    if holds_two(held) {
+    if holds_two(session.held) {
         return refuse(session, TWO_FRAMES_HELD);
     }
-    if payload.len() == 0 {
+    if payload.is_empty() {
         return refuse(session, BAD_LENGTH);
     }
     send_data(session, payload, output)
@@ -52,10 +52,9 @@ fn send_data(session: Session, payload: &[u8], output: &mut [u8]) -> Outcome
     requires { output_room ≤ length output.old }
     ensures { SendsAs session (send_data session payload.now) output.old result output.new }
 {
-    let counter = session.counter;
-    let good = session.good;
-    let number = next_of_ours(counter);
-    match write_frame(control_byte(Kind::Ack, number, good), payload, output) {
+    let number = next_of_ours(session.counter);
+    let control = control_byte(Kind::Ack, number, session.good);
+    match write_frame(control, payload, output) {
         Written::Refused(refusal) => refuse(session, refusal),
         Written::Length(length) => {
             let next = hold(session, number, payload);
@@ -65,6 +64,7 @@ fn send_data(session: Session, payload: &[u8], output: &mut [u8]) -> Outcome
 }
 
 // 500 ms have passed without an acknowledgement: what is held is sent again.
+#[tactic(auto, unfolding(crate::specs::Events::timeout_of, crate::specs::Frames::bytes_of))]
 pub fn timeout(session: Session, output: &mut [u8]) -> Outcome
     ensures { SendsAs session (timeout_of session (length output.old)) output.old result output.new }
 {

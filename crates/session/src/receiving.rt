@@ -6,7 +6,7 @@ ghost use Rattle.session.specs.Receiving.{good_reset, good_reset_ack, reset_take
 use crate::OUTPUT_ROOM;
 use crate::answers::{answer_data, answer_nack};
 use crate::control::{Control, Kind, read_control};
-use crate::counters::AFC;
+use crate::counters::{AFC, OFC};
 use crate::frames::put_empty;
 use crate::holding::{record_good, restart};
 use crate::replies::take_reply;
@@ -18,6 +18,7 @@ use refusals::SHORT_OUTPUT;
 // Takes the bytes of one frame. What goes out for it is put at the start of `output`, good data at
 // the start of `payload`. An output of under 135 bytes or a payload of under 57 is refusal 7; a frame
 // at fault is none, but gets a NACK.
+#[tactic(auto, unfolding(crate::specs::Receiving::receive_of, crate::specs::Frames::bytes_of))]
 pub fn receive(session: Session, frame: &[u8], output: &mut [u8], payload: &mut [u8]) -> Outcome
     ensures { HandsAs session (receive_of session frame.now (length output.old) (length payload.old)) output.old payload.old result output.new payload.new }
 {
@@ -38,6 +39,7 @@ pub fn receive(session: Session, frame: &[u8], output: &mut [u8], payload: &mut 
 }
 
 // A frame with what its control byte says and its data.
+#[tactic(auto, using(crate::proofs::TakenLaws::reset_hands_none))]
 fn take_frame(
     session: Session,
     control: Control,
@@ -47,8 +49,7 @@ fn take_frame(
 ) -> Outcome
     ensures { HandsAs session (given (frame_taken session control payload.now)) output.old handed.old result output.new handed.new }
 {
-    let kind = control.kind;
-    match kind {
+    match control.kind {
         Kind::Reset => take_reset(session, control, payload.len(), output),
         Kind::ResetAck => take_reset_ack(session, control, payload, output, handed),
         Kind::Ack => take_reply(session, control, false, payload, output, handed),
@@ -57,34 +58,27 @@ fn take_frame(
 }
 
 // The peer's RESET: 1/0 without data, or else it gets a NACK.
+#[tactic(auto, unfolding(crate::specs::Receiving::reset_taken, crate::specs::Frames::bytes_of))]
 fn take_reset(session: Session, control: Control, length: usize, output: &mut [u8]) -> Outcome
     ensures { SendsAs session (given (reset_taken session control length)) output.old result output.new }
 {
     if !is_reset(control, length) {
         return answer_nack(session, output);
     }
-    let dropped = session.held;
     let next = restart(session, AFC(FIRST), session.awaiting);
     let sent = put_empty(Kind::ResetAck, next, output, 0);
-    finish(next, sent, 0, dropped)
+    finish(next, sent, 0, session.held)
 }
 
 fn is_reset(control: Control, length: usize) -> bool
     ensures { result ≡ good_reset control length }
 {
-    let number = control.number;
-    let acknowledged = control.acknowledged;
-    if length != 0 {
-        return false;
-    }
-    if number.0 != FIRST {
-        return false;
-    }
-    acknowledged.0 == NONE
+    length == 0 && control.number == AFC(FIRST) && control.acknowledged == OFC(NONE)
 }
 
 // The answer to our RESET, if it is awaited: 1/1 without data or 2/1 with data, or else it gets a
 // NACK. One that is not awaited is ignored.
+#[tactic(auto, unfolding(crate::specs::Receiving::reset_ack_taken, crate::specs::Frames::bytes_of))]
 fn take_reset_ack(
     session: Session,
     control: Control,
@@ -100,21 +94,13 @@ fn take_reset_ack(
     if !is_reset_ack(control, payload.len()) {
         return answer_nack(session, output);
     }
-    let number = control.number;
-    let next = record_good(session, number);
+    let next = record_good(session, control.number);
     answer_data(next, payload, 0, output, handed)
 }
 
 fn is_reset_ack(control: Control, length: usize) -> bool
     ensures { result ≡ good_reset_ack control length }
 {
-    let number = control.number;
-    let acknowledged = control.acknowledged;
-    if acknowledged.0 != FIRST {
-        return false;
-    }
-    if length == 0 {
-        return number.0 == FIRST;
-    }
-    number.0 == SECOND
+    let number = if length == 0 { FIRST } else { SECOND };
+    control.acknowledged == OFC(FIRST) && control.number == AFC(number)
 }

@@ -7,7 +7,7 @@ ghost use Rattle.session.specs.Steps.{RepeatsAs};
 
 use crate::answers::{answer_data, answer_nack};
 use crate::control::Control;
-use crate::counters::{AFC, next_of_peers, same_of_peers};
+use crate::counters::{AFC, next_of_peers};
 use crate::frames::put_held;
 use crate::holding::{cover, record_good};
 use crate::state::{Held, Outcome, Session, finish};
@@ -15,6 +15,7 @@ use crate::state::{Held, Outcome, Session, finish};
 // An ACK or, with `again`, a NACK. It is ignored while RESET ACK is awaited, and data in it has to be
 // the next of the peer's, or else it gets a NACK. It covers held frames, and a NACK has the others
 // sent again.
+#[tactic(auto, unfolding(crate::specs::Receiving::reply_taken, crate::specs::Frames::bytes_of))]
 pub(crate) fn take_reply(
     session: Session,
     control: Control,
@@ -28,13 +29,11 @@ pub(crate) fn take_reply(
     if session.awaiting {
         return finish(session, 0, 0, Held::Nothing);
     }
-    let good = session.good;
     let number = control.number;
-    if !in_order(good, number, payload.len()) {
+    if !in_order(session.good, number, payload.len()) {
         return answer_nack(session, output);
     }
-    let acknowledged = control.acknowledged;
-    let covering = cover(session, acknowledged);
+    let covering = cover(session, control.acknowledged);
     let next = record_data(covering, number, payload.len());
     let repeated = repeat(next, again, output);
     answer_data(next, payload, repeated, output, handed)
@@ -44,10 +43,7 @@ pub(crate) fn take_reply(
 fn in_order(good: AFC, number: AFC, length: usize) -> bool
     ensures { result ≡ in_order good number length }
 {
-    if length == 0 {
-        return true;
-    }
-    same_of_peers(number, next_of_peers(good))
+    length == 0 || number == next_of_peers(good)
 }
 
 // The number of a frame with data is the last good one.
@@ -61,6 +57,7 @@ fn record_data(session: Session, number: AFC, length: usize) -> Session
 }
 
 // Puts the held frames at the start of `output` if they are to be sent again, and answers their length.
+#[tactic(auto, unfolding(crate::specs::Frames::bytes_of))]
 fn repeat(session: Session, again: bool, output: &mut [u8]) -> usize
     ensures { RepeatsAs again session output.old result output.new }
 {

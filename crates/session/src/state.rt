@@ -1,10 +1,11 @@
 // The session between two events, and what an event gives.
 ghost use Rattle.std.specs.Prelude.{◌≡◌};
-ghost use Rattle.session.specs.State.{fresh_session, no_payload};
+ghost use Rattle.session.specs.State.{fresh_session};
 ghost use Rattle.session.specs.Results.{refusing, done};
 
 use crate::counters::{AFC, OFC};
 use ash::PAYLOAD_MAX;
+use slices::FixedBytes;
 
 // The number of a RESET, and so of our counter behind it.
 pub(crate) const FIRST: u8 = 1;
@@ -15,14 +16,11 @@ pub(crate) const SECOND: u8 = 2;
 // No frame.
 pub(crate) const NONE: u8 = 0;
 
-// Data of a frame before stuffing: the first `length` of the bytes.
-#[derive(Clone, Copy)]
-pub struct Payload {
-    pub length: usize,
-    pub bytes: [u8; PAYLOAD_MAX],
-}
+// Data of a frame before stuffing.
+pub type Payload = FixedBytes<PAYLOAD_MAX>;
 
-// The numbers of the frames that are held, oldest first.
+// The numbers of the frames that are held, oldest first; their data stands beside it, not in it, since a
+// report of dropped frames has the numbers alone.
 #[derive(Clone, Copy)]
 pub enum Held {
     Nothing,
@@ -61,6 +59,7 @@ pub struct Outcome {
 }
 
 // A session before the first event: our RESET stands as sent, and its answer is awaited.
+#[tactic(auto, unfolding(crate::specs::State::fresh_session))]
 pub fn fresh() -> Session
     ensures { result ≡ fresh_session }
 {
@@ -69,17 +68,8 @@ pub fn fresh() -> Session
         good: AFC(NONE),
         awaiting: true,
         held: Held::Nothing,
-        older: no_payload(),
-        newer: no_payload(),
-    }
-}
-
-fn no_payload() -> Payload
-    ensures { result ≡ no_payload }
-{
-    Payload {
-        length: 0,
-        bytes: [0u8; PAYLOAD_MAX],
+        older: FixedBytes::of(b""),
+        newer: FixedBytes::of(b""),
     }
 }
 

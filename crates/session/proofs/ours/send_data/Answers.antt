@@ -20,7 +20,7 @@ returns-in-Refused c =
 
 pub returns-in-Length : goal.returns-in-Length
 returns-in-Length c =
-    let control-is : c.control_byte.result ≡ control_byte Ack (next_of_ours c.args.session.counter) c.args.session.good = c.control_byte.ensures ∙ ap (λ (n : OFC). control_byte Ack n c.args.session.good) c.next_of_ours-number.ensures in
+    let control-is : c.control_byte-control.result ≡ control_byte Ack (next_of_ours c.args.session.counter) c.args.session.good = c.control_byte-control.ensures ∙ ap (λ (n : OFC). control_byte Ack n c.args.session.good) c.next_of_ours-number.ensures in
     let law = data_sent c.args.session c.args.payload.now c.args.output.now c.requires _ _ _ c.write_frame.ensures _ c.in-Length.is control-is in
     let next = c.hold-next.ensures ∙ ap (λ (n : OFC). holding c.args.session n c.args.payload.now) c.next_of_ours-number.ensures in
     gives c.args.session _ (send_given c.args.session c.args.payload.now) c.args.output.now _ _ _ law.0 law.1 (c.finish.ensures ∙ ap (λ (s : Session). done s c.in-Length.length 0 Nothing) next)

@@ -1,6 +1,5 @@
 -- `board::list::watch` meets its contract: each way through it has its law.
-use Rattle.std.proofs.Common.{sym, ◌∙◌}
-use Rattle.rows.proofs.LengthLaws.{board_rows}
+use Rattle.std.proofs.Common.{sym, ◌∙◌, arith}
 use Rattle.board.proofs.WatchLaws.{watch_bad, watch_again, watch_full, watch_first}
 use Rattle.board.proofs.list.watch.Goals as goal
 
@@ -12,11 +11,9 @@ returns-then-is_some c = c.refused-then-is_some.ensures ∙ sym (watch_again _ _
 
 pub returns-in_default : goal.returns-in_default
 returns-in_default c =
-    let all_rows = board_rows c.args.board _ c.well_formed.0 in
-    c.refused-in_default.ensures ∙ sym (watch_full _ _ c.if-not-valid_name.ensures c.find.ensures c.if-is_some.ensures all_rows c.in_default.ensures)
+    c.refused-in_default.ensures ∙ sym (watch_full _ _ c.if-not-valid_name.ensures c.find.ensures c.if-is_some.ensures (omega arith) c.in_default.ensures)
 
 pub returns : goal.returns
 returns c =
-    let all_rows = board_rows c.args.board _ c.well_formed.0 in
     rw (c.put_row.ensures, c.fresh_row.ensures)
-    (sym (watch_first _ _ c.if-not-valid_name.ensures c.find.ensures c.if-is_some.ensures all_rows c.in-Some.ensures))
+    (sym (watch_first _ _ c.if-not-valid_name.ensures c.find.ensures c.if-is_some.ensures (omega arith) c.in-Some.ensures))

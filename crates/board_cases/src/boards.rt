@@ -6,21 +6,19 @@ use rows::Board;
 pub(crate) fn show_list(rt: &impl Print, line: &[u8], fields: &[u8]) {
     line::label(rt, line);
     let watched = board::watch_list(fields);
-    let answer = watched.answer;
-    match answer {
+    match watched.answer {
         Listed::Accepted => print::text(rt, b": accepted"),
         Listed::Refused(number) => print::number(rt, b": refused ", number as u64),
     }
     print::text(rt, b"\n");
-    reports::rows(rt, watched.board);
+    let _ = reports::rows(rt, watched.board);
 }
 
 // What the packet does to a board that was updated one tick ago.
 pub(crate) fn show_reading(rt: &impl Print, line: &[u8], packet: &[u8]) {
     line::label(rt, line);
     let reading = board::read(rows::tick(updated()), packet);
-    let answer = reading.answer;
-    match answer {
+    match reading.answer {
         Answer::Updated { row, id } => {
             print::number(rt, b": row ", row as u64);
             print::number(rt, b" id ", id as u64);
@@ -29,7 +27,7 @@ pub(crate) fn show_reading(rt: &impl Print, line: &[u8], packet: &[u8]) {
         Answer::Refused(number) => print::number(rt, b": refused ", number as u64),
     }
     print::text(rt, b"\n");
-    reports::rows(rt, reading.board);
+    let _ = reports::rows(rt, reading.board);
 }
 
 // A board that watches h1 and h2, of which h1 has had the update of case 6.
@@ -39,6 +37,5 @@ pub(crate) fn updated() -> Board {
 }
 
 pub(crate) fn case_6(board: Board) -> Board {
-    let reading = board::read(board, b"\x01\x03\x00\x00\x01\x02h1\x16\x04\x00\x00\x0dz");
-    reading.board
+    board::read(board, b"\x01\x03\x00\x00\x01\x02h1\x16\x04\x00\x00\x0dz").board
 }

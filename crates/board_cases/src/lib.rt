@@ -13,8 +13,7 @@ use rows::Board;
 use value::Value;
 
 pub fn run(rt: &impl Print, line: &[u8], bytes: &[u8]) {
-    let key = line::key(line);
-    match key {
+    match line::key(line) {
         b'v' => show_value(rt, line, bytes),
         b'w' => show_list(rt, line, bytes),
         b'r' => show_reading(rt, line, bytes),
@@ -25,33 +24,23 @@ pub fn run(rt: &impl Print, line: &[u8], bytes: &[u8]) {
 }
 
 fn show_value(rt: &impl Print, line: &[u8], bytes: &[u8]) {
-    if bytes.len() == 0 {
+    let [kind, content @ ..] = bytes else {
         line::not_run(rt, line, b"too few bytes");
         return;
-    }
+    };
     line::label(rt, line);
-    let value = value::read_value(bytes[0], &bytes[1..]);
-    match value {
-        Value::Number(number) => show_number(rt, number),
+    match value::read_value(*kind, content) {
+        Value::Number(number) => {
+            let _ = println!(rt; " {number}");
+        }
         Value::Bad => print::text(rt, b" bad\n"),
     }
 }
 
-fn show_number(rt: &impl Print, number: i64) {
-    if number < 0 {
-        print::number(rt, b" -", value::magnitude(number));
-    } else {
-        print::number(rt, b" ", value::magnitude(number));
-    }
-    print::text(rt, b"\n");
-}
-
 fn ticked(board: Board, ticks: u64) -> Board {
     let mut next = board;
-    let mut i: u64 = 0;
-    while i < ticks {
+    for _ in 0..ticks {
         next = rows::lent_tick(next);
-        i += 1;
     }
     next
 }
@@ -59,5 +48,5 @@ fn ticked(board: Board, ticks: u64) -> Board {
 fn show_board(rt: &impl Print, line: &[u8], board: Board) {
     line::label(rt, line);
     print::text(rt, b"\n");
-    reports::rows(rt, board);
+    let _ = reports::rows(rt, board);
 }

@@ -24,8 +24,7 @@ fn call(
     packet: &mut [u8],
 ) -> Display {
     let received = display::receive(display, piece, reply, packet);
-    let answer = received.answer;
-    show_answer(rt, received.taken, answer, reply, packet);
+    show_answer(rt, received.taken, received.answer, reply, packet);
     received.display
 }
 
@@ -73,8 +72,7 @@ fn show_reading(rt: &impl Print, reading: board::Answer) {
 pub fn show_display(rt: &impl Print, display: Display) -> Display
     ensures { result ≡ display }
 {
-    let link = display.link;
-    reports::counts(rt, link.counts);
-    reports::rows(rt, display.board);
+    let _ = reports::counts(rt, display.link.counts);
+    let _ = reports::rows(rt, display.board);
     display
 }

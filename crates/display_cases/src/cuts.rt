@@ -24,33 +24,23 @@ pub(crate) fn compare(rt: &impl Print, display: Display, stream: &[u8]) -> Displ
 
 // At how many places a cut gives what the whole stream gives.
 fn alike(rt: &impl Print, before: Passed, stream: &[u8], whole: u16) -> usize {
-    let mut count: usize = 0;
-    let mut place: usize = 0;
-    while place <= stream.len() {
-        if cut_at(rt, before, stream, place) == whole {
-            count += 1;
-        }
-        place += 1;
-    }
-    count
+    (0..=stream.len())
+        .filter(|place| cut_at(rt, before, stream, *place) == whole)
+        .count()
 }
 
 // The stream in two pieces. A place past the end leaves the stream out.
 fn cut_at(rt: &impl Print, before: Passed, stream: &[u8], place: usize) -> u16 {
-    if stream.len() < place {
+    let Some((front, back)) = stream.split_at_checked(place) else {
         return total(before);
-    }
-    let first = pass(rt, before, &stream[..place], false);
-    total(pass(rt, first, &stream[place..], false))
+    };
+    total(pass(rt, pass(rt, before, front, false), back, false))
 }
 
 fn byte_by_byte(rt: &impl Print, before: Passed, stream: &[u8]) -> u16 {
     let mut passed = before;
-    let mut i: usize = 0;
-    while i < stream.len() {
-        let end = i + 1;
-        passed = pass(rt, passed, &stream[i..end], false);
-        i = end;
+    for byte in stream {
+        passed = pass(rt, passed, &[*byte], false);
     }
     total(passed)
 }
@@ -58,17 +48,17 @@ fn byte_by_byte(rt: &impl Print, before: Passed, stream: &[u8]) -> u16 {
 // The check over what was handed out, the lines of counts and those of the rows in use.
 fn total(passed: Passed) -> u16 {
     let display = passed.display;
-    let link = display.link;
-    let board = display.board;
-    rows_marked(counts_marked(passed.check, link.counts), board)
+    rows_marked(
+        counts_marked(passed.check, display.link.counts),
+        display.board,
+    )
 }
 
 fn counts_marked(check: u16, counts: Counts) -> u16 {
-    let refused = counts.refused;
     let mut line = [0u8; LINE_MAX];
     history::lines::counts(&mut line, counts);
     let first = crc::check(check, &line);
-    history::lines::refused(&mut line, &refused);
+    history::lines::refused(&mut line, &counts.refused);
     crc::check(first, &line)
 }
 

@@ -34,30 +34,28 @@ pub fn fresh_display() -> Display
 
 // Feeds a whole stream and prints each answer.
 pub(crate) fn feed(rt: &impl Print, display: Display, stream: &[u8]) -> Display {
-    let passed = pass(rt, Passed { display, check: 0 }, stream, true);
-    passed.display
+    pass(rt, Passed { display, check: 0 }, stream, true).display
 }
 
 // At most so many zeros: one more than the longest content.
-const ZEROS_MAX: u64 = CONTENT_MAX as u64 + 1;
+const ZEROS_MAX: usize = CONTENT_MAX + 1;
 
 pub(crate) fn feed_zeros(rt: &impl Print, display: Display, line: &[u8], count: u64) -> Display {
-    let zeros = [0u8; ZEROS_MAX as usize];
-    if ZEROS_MAX < count {
-        line::not_run(rt, line, b"too many zeros");
-        return display;
+    let zeros = [0u8; ZEROS_MAX];
+    match zeros.get(..count as usize) {
+        Some(stream) => feed(rt, display, stream),
+        None => {
+            line::not_run(rt, line, b"too many zeros");
+            display
+        }
     }
-    let end = count as usize;
-    feed(rt, display, &zeros[..end])
 }
 
 // The same acknowledgement many times, with no answer printed.
 pub(crate) fn feed_acknowledgements(rt: &impl Print, display: Display, count: u64) -> Display {
     let mut passed = Passed { display, check: 0 };
-    let mut i: u64 = 0;
-    while i < count {
+    for _ in 0..count {
         passed = pass(rt, passed, b"\x7e\x02\x01\x6b\x4c\x7e", false);
-        i += 1;
     }
     passed.display
 }
@@ -65,11 +63,11 @@ pub(crate) fn feed_acknowledgements(rt: &impl Print, display: Display, count: u6
 // Feeds a whole stream; `shown` says whether the answers are printed.
 pub(crate) fn pass(rt: &impl Print, before: Passed, stream: &[u8], shown: bool) -> Passed {
     let mut passed = before;
-    let mut at: usize = 0;
-    while at < stream.len() {
-        let call = take_piece(rt, passed, &stream[at..], shown);
+    let mut left = stream;
+    while !left.is_empty() {
+        let call = take_piece(rt, passed, left, shown);
         passed = call.passed;
-        at += call.taken;
+        left = &left[call.taken..];
     }
     passed
 }
@@ -81,17 +79,14 @@ fn take_piece(rt: &impl Print, before: Passed, piece: &[u8], shown: bool) -> Cal
 {
     let mut reply = [0u8; REPLY_ROOM];
     let mut packet = [0u8; PAYLOAD_MAX];
-    let display = before.display;
-    let received = display::receive(display, piece, &mut reply, &mut packet);
-    let answer = received.answer;
-    let check = marked(before.check, answer, &reply, &packet);
+    let received = display::receive(before.display, piece, &mut reply, &mut packet);
+    let check = marked(before.check, received.answer, &reply, &packet);
     if shown {
-        show_answer(rt, received.taken, answer, &reply, &packet);
+        show_answer(rt, received.taken, received.answer, &reply, &packet);
     }
-    let next = received.display;
     Call {
         passed: Passed {
-            display: next,
+            display: received.display,
             check,
         },
         taken: received.taken,
@@ -107,11 +102,9 @@ fn marked(check: u16, answer: Answer, reply: &[u8], packet: &[u8]) -> u16 {
 
 // A refusal counts with its number and its place.
 fn refusal_marked(check: u16, answer: Answer) -> u16 {
-    match answer {
-        Answer::Refused { number, place } => {
-            let told = [number, (place / 0x100 % 0x100) as u8, (place % 0x100) as u8];
-            crc::check(check, &told)
-        }
-        _ => check,
-    }
+    let Answer::Refused { number, place } = answer else {
+        return check;
+    };
+    let told = [number, (place / 0x100 % 0x100) as u8, (place % 0x100) as u8];
+    crc::check(check, &told)
 }

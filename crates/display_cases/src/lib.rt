@@ -19,8 +19,7 @@ use display::Display;
 pub use feeding::fresh_display;
 
 pub fn run(rt: &impl Print, display: Display, line: &[u8], bytes: &[u8]) -> Display {
-    let key = line::key(line);
-    match key {
+    match line::key(line) {
         b's' => start(rt, line),
         b'f' => feeding::feed(rt, display, bytes),
         b'z' => feeding::feed_zeros(rt, display, line, line::number(bytes)),
@@ -31,13 +30,11 @@ pub fn run(rt: &impl Print, display: Display, line: &[u8], bytes: &[u8]) -> Disp
         b'k' => cuts::compare(rt, display, bytes),
         b'd' | b'o' => sending::run_event(rt, display, line, bytes),
         b'h' => sending::show_sender(rt, display),
-        _ => no_key(rt, display, line),
+        _ => {
+            line::not_run(rt, line, b"no such key");
+            display
+        }
     }
-}
-
-fn no_key(rt: &impl Print, display: Display, line: &[u8]) -> Display {
-    line::not_run(rt, line, b"no such key");
-    display
 }
 
 fn start(rt: &impl Print, line: &[u8]) -> Display {

@@ -10,43 +10,20 @@ use sender::{Answer, Held, Payload};
 const OUTPUT_MAX: usize = 800;
 
 // The first two bytes are the length of the lent output, high byte first.
-const ROOM_SIZE: usize = 2;
-
 pub(crate) fn run_event(rt: &impl Print, display: Display, line: &[u8], bytes: &[u8]) -> Display {
     let mut output = [UNTOUCHED; OUTPUT_MAX];
-    lend_output(rt, display, line, bytes, &mut output)
-}
-
-fn lend_output(
-    rt: &impl Print,
-    display: Display,
-    line: &[u8],
-    bytes: &[u8],
-    output: &mut [u8],
-) -> Display {
-    if bytes.len() < ROOM_SIZE {
+    let [high, low, payload @ ..] = bytes else {
         line::not_run(rt, line, b"too few bytes");
         return display;
-    }
-    let room = slices::pair(bytes[0], bytes[1]) as usize;
-    if output.len() < room {
+    };
+    let room = slices::pair(*high, *low) as usize;
+    let Some(lent) = output.get_mut(..room) else {
         line::not_run(rt, line, b"too long an output");
         return display;
-    }
-    take_event(rt, display, line, &bytes[ROOM_SIZE..], &mut output[..room])
-}
-
-fn take_event(
-    rt: &impl Print,
-    display: Display,
-    line: &[u8],
-    payload: &[u8],
-    output: &mut [u8],
-) -> Display {
-    let key = line::key(line);
-    match key {
-        b'd' => shown(rt, display::send(display, payload, output), output),
-        _ => shown(rt, display::timeout(display, output), output),
+    };
+    match line::key(line) {
+        b'd' => shown(rt, display::send(display, payload, lent), lent),
+        _ => shown(rt, display::timeout(display, lent), lent),
     }
 }
 
@@ -54,8 +31,7 @@ fn take_event(
 fn shown(rt: &impl Print, sent: Outgoing, output: &[u8]) -> Display
     ensures { result ≡ sent.display }
 {
-    let answer = sent.answer;
-    show_answer(rt, answer);
+    show_answer(rt, sent.answer);
     print::lent(rt, b" ", output);
     print::text(rt, b"\n");
     sent.display
@@ -81,9 +57,8 @@ pub(crate) fn show_sender(rt: &impl Print, display: Display) -> Display
     ensures { result ≡ display }
 {
     let sender = display.sender;
-    let held = sender.held;
     print::number(rt, b"next ", sender.next as u64);
-    match held {
+    match sender.held {
         Held::Nothing => print::text(rt, b" held nothing"),
         Held::Frame { sequence, repeats } => {
             print::number(rt, b" held ", sequence as u64);
@@ -96,6 +71,9 @@ pub(crate) fn show_sender(rt: &impl Print, display: Display) -> Display
 }
 
 fn show_payload(rt: &impl Print, payload: Payload) {
-    let bytes = payload.bytes;
-    print::hex(rt, b" payload ", slices::first(&bytes, payload.length));
+    print::hex(
+        rt,
+        b" payload ",
+        slices::first(&payload.bytes, payload.length),
+    );
 }

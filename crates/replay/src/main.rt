@@ -4,31 +4,30 @@
 mod print;
 mod read;
 
-use read::Progress;
+use history::fields::Head;
+use read::Fault;
+use std::io::Read;
+
+// The output tells of a broken history. What fails otherwise is passed over, and so is the history
+// behind it.
+fn main(rt: HostRuntime) {
+    if let Err(Fault::Broken) = replay(&rt, &mut rt.stdin()) {
+        let _ = print::broken(&rt);
+    }
+}
 
 // A history has any length, but a proved loop has to end: this one has more turns than any history
 // uses up.
-fn main(rt: HostRuntime) {
-    let mut input = rt.stdin();
-    let board = rows::fresh();
-    let mut display = display::start(board);
+fn replay(rt: &impl Print, input: &mut impl Read) -> Result<(), Fault> {
+    let mut display = display::start(rows::fresh());
     let mut listing = true;
     for _ in 0..u64::MAX {
-        let step = read::field(&rt, &mut input, display, listing);
-        let progress = step.progress;
-        match progress {
-            Progress::Named => {}
-            Progress::Played => listing = false,
-            Progress::Ended => {
-                print::report(&rt, step.display);
-                return;
-            }
-            Progress::Broken => {
-                print::broken(&rt);
-                return;
-            }
-            Progress::Stopped => return,
-        }
-        display = step.display;
+        let Some(head) = read::head(input, listing)? else {
+            print::report(rt, display)?;
+            return Ok(());
+        };
+        display = read::play(rt, input, display, head)?;
+        listing = listing && matches!(head, Head::Name(_));
     }
+    Ok(())
 }

@@ -1,9 +1,6 @@
--- `replay::read::feed` ends, since each call takes some of the rest.
-use Rattle.std.proofs.Common.{◌-◌, ◌≤◌, length}
+-- `replay::read::feed` ends, since each call takes some of what is left.
+use Rattle.std.proofs.Common.{length}
 use Rattle.replay.proofs.read.feed.Given as goal
 
-abbrev pub invariant-loop-at : goal.invariant-loop-at
-invariant-loop-at g l = l.at ≤ length l.bytes
-
-abbrev pub decreases-loop-at : goal.decreases-loop-at
-decreases-loop-at g l = length l.bytes - l.at
+abbrev pub decreases-loop-left : goal.decreases-loop-left
+decreases-loop-left g l = length l.left

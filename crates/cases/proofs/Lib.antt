@@ -1,3 +1,4 @@
 pub mod BufferLaws
+pub mod InputLaws
 pub mod LineLaws
 pub mod ReadingLaws

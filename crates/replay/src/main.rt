@@ -26,7 +26,7 @@ fn replay(rt: &impl Print, input: &mut impl Read) -> Result<(), Fault> {
             print::report(rt, display)?;
             return Ok(());
         };
-        display = read::play(rt, input, display, head)?;
+        read::play(rt, input, &mut display, head)?;
         listing = listing && matches!(head, Head::Name(_));
     }
     Ok(())

@@ -3,7 +3,7 @@ ghost use Rattle.std.specs.Prelude.{IfOk};
 ghost use Rattle.display.specs.Taking.{Takes};
 
 use board::Listed;
-use display::{Answer, Display, Received};
+use display::{Answer, Display};
 use frame::PAYLOAD_MAX;
 use history::fields::{FIELD_MAX, Head};
 use link::receiver::REPLY_ROOM;
@@ -42,14 +42,17 @@ pub(crate) fn head(input: &mut impl Read, listing: bool) -> Result<Option<Head>,
 pub(crate) fn play(
     rt: &impl Print,
     input: &mut impl Read,
-    display: Display,
+    display: &mut Display,
     head: Head,
-) -> Result<Display, Fault> {
+) -> Result<(), Fault> {
     let mut space = [0u8; FIELD_MAX];
     match head {
         Head::Name(length) => list(display, body(input, &mut space, length)?),
         Head::Received(length) => feed(rt, display, body(input, &mut space, length)?),
-        Head::Tick => Ok(display::tick(display)),
+        Head::Tick => {
+            *display = display::tick(*display);
+            Ok(())
+        }
         Head::Broken => Err(Fault::Broken),
     }
 }
@@ -67,36 +70,36 @@ fn fill(input: &mut impl Read, bytes: &mut [u8]) -> Result<(), Fault> {
 }
 
 // No byte has come yet, so the display starts anew with each name.
-fn list(display: Display, name: &[u8]) -> Result<Display, Fault> {
+fn list(display: &mut Display, name: &[u8]) -> Result<(), Fault> {
     let watched = board::watch(display.board, name);
-    match watched.answer {
-        Listed::Accepted => Ok(display::start(watched.board)),
-        Listed::Refused(_) => Err(Fault::Broken),
+    if let Listed::Refused(_) = watched.answer {
+        return Err(Fault::Broken);
     }
+    *display = display::start(watched.board);
+    Ok(())
 }
 
 // A call stops after each frame: the rest goes to the next one.
-fn feed(rt: &impl Print, display: Display, bytes: &[u8]) -> Result<Display, Fault> {
-    let mut next = display;
+fn feed(rt: &impl Print, display: &mut Display, bytes: &[u8]) -> Result<(), Fault> {
     let mut left = bytes;
     while !left.is_empty() {
-        let received = take(rt, next, left)?;
-        next = received.display;
-        left = &left[received.taken..];
+        let taken = take(rt, display, left)?;
+        left = &left[taken..];
     }
-    Ok(next)
+    Ok(())
 }
 
 // One call, whose reply is printed. The contract says how many bytes it takes, and no more: the loop
 // needs that to end.
-fn take(rt: &impl Print, display: Display, piece: &[u8]) -> io::Result<Received>
-    ensures { IfOk result (λ received. Takes piece.now received.taken) }
+fn take(rt: &impl Print, display: &mut Display, piece: &[u8]) -> io::Result<usize>
+    ensures { IfOk result (λ taken. Takes piece.now taken) }
 {
     let mut reply = [0u8; REPLY_ROOM];
     let mut packet = [0u8; PAYLOAD_MAX];
-    let received = display::receive(display, piece, &mut reply, &mut packet);
+    let received = display::receive(*display, piece, &mut reply, &mut packet);
+    *display = received.display;
     print_reply(rt, received.answer, &reply)?;
-    Ok(received)
+    Ok(received.taken)
 }
 
 fn print_reply(rt: &impl Print, answer: Answer, reply: &[u8]) -> io::Result<()> {

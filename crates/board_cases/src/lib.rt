@@ -5,6 +5,7 @@
 //
 // The keys: `v` the type and the bytes of a value item, `w` a watch list, `r` a packet read by a board
 // of h1 and h2, `t` a number of ticks after the update of case 6, `u` the same and that update again.
+// A write that fails is passed over, and the comparison of the output finds it.
 mod boards;
 
 use boards::{case_6, show_list, show_reading, updated};

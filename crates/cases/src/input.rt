@@ -11,8 +11,8 @@ pub fn read_full<R: Read>(input: &mut R, buffer: &mut [u8]) -> usize
     ensures prefix_len { IsPrefixLen result buffer.new }
     ensures consumed { Consumes (R.remaining input.old) (R.remaining input.new) (take result buffer.new) }
 {
-    // A count, not a `for`: what a read gives says where the next one begins.
     let mut count: usize = 0;
+    // A count, not a `for`: each read says where the next one begins.
     while count < buffer.len() {
         match input.read(&mut buffer[count..]) {
             Ok(0) | Err(_) => return count,

@@ -64,6 +64,7 @@ pub(crate) fn feed_acknowledgements(rt: &impl Print, display: Display, count: u6
 pub(crate) fn pass(rt: &impl Print, before: Passed, stream: &[u8], shown: bool) -> Passed {
     let mut passed = before;
     let mut left = stream;
+    // What is left, not a `for`: a call stops after each frame, and says how many bytes it took.
     while !left.is_empty() {
         let call = take_piece(rt, passed, left, shown);
         passed = call.passed;

@@ -8,6 +8,7 @@
 // buffers that are a byte too short, `c` prints its counts and rows, `k` cuts a stream at every place.
 // By request C-13: `d` sends the payload behind the first two bytes, which are the length of the lent
 // output, at most 800; `o` is a timeout with so long an output; `h` prints what the sender holds.
+// A write that fails is passed over, and the comparison of the output finds it.
 mod calls;
 mod cuts;
 mod feeding;

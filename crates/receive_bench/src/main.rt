@@ -81,6 +81,7 @@ fn feed(display: Display, stream: &[u8], size: usize, buffers: &mut Buffers) -> 
 fn feed_piece(display: Display, piece: &[u8], buffers: &mut Buffers) -> Display {
     let mut next = display;
     let mut left = piece;
+    // What is left, not a `for`: a call stops after each frame, and says how many bytes it took.
     while !left.is_empty() {
         let received = call(next, left, buffers);
         next = received.display;

@@ -79,9 +79,9 @@ fn list(display: &mut Display, name: &[u8]) -> Result<(), Fault> {
     Ok(())
 }
 
-// A call stops after each frame: the rest goes to the next one.
 fn feed(rt: &impl Print, display: &mut Display, bytes: &[u8]) -> Result<(), Fault> {
     let mut left = bytes;
+    // What is left, not a `for`: a call stops after each frame, and says how many bytes it took.
     while !left.is_empty() {
         let taken = take(rt, display, left)?;
         left = &left[taken..];

@@ -12,6 +12,7 @@ pub const TICK_TAG: u8 = 0x03;
 pub const FIELD_MAX: usize = 4096;
 
 // What a field is by its head: a name or received bytes, of so many bytes, a tick, or broken.
+// No Option of three kinds: `head_of` in specs/ counts a broken head among four.
 #[derive(Clone, Copy)]
 pub enum Head {
     Name(usize),

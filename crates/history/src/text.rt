@@ -1,5 +1,7 @@
 // Text appended to a lent buffer. What would fall past the buffer's end is dropped, and the place
 // behind the text is then that end.
+// Two parameters, the buffer and the place: a struct that held a lent buffer would need one more clause
+// on each function, that it still holds the same one.
 ghost use Rattle.std.specs.Prelude.{◌≡◌, ◌+◌, ◌<◌, min};
 ghost use Rattle.history.specs.Appending.{Appends};
 ghost use Rattle.history.specs.Numbers.{decimal_of, signed_of, hex_digit, hex_byte};

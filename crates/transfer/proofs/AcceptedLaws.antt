@@ -7,6 +7,7 @@ use native.Mathlib.Omega.{arith}
 use lib.Dec.{eqb, ltb}
 use lib.ListN.{length}
 use borrow.Author.Tests.{eqb-true, ltb-false, not-true}
+use Rattle.std.specs.Prelude.{Some}
 use Rattle.refusals.specs.Numbers.{other_opcode, other_location, wrong_offset, past_length, early_end}
 use Rattle.slices.proofs.Impossible.{impossible}
 use Rattle.slices.specs.Same.{same_bytes}
@@ -15,10 +16,8 @@ use Rattle.packet.specs.ItemTypes.{binary_kind, location_kind}
 use Rattle.packet.specs.Items.{Item, value_in}
 use Rattle.packet.specs.Packet as judged
 use Rattle.packet.specs.Packet.{Judged, judged_items}
-use Rattle.transfer.specs.Fragment.{Form, good, bad, form_of}
+use Rattle.transfer.specs.Fragment.{Declared, Form, good, bad, form_of}
 use Rattle.transfer.specs.Transfer.{fragment_opcode, Verdict, accepted, refused, location_of, known_length, passes_length, is_long, goes_on, ends_early, judge_end, judge_form, verdict_of}
-use Rattle.transfer.specs.declared.state.Declared.{Declared}
-use Rattle.transfer.specs.declared.state.Declared.TheVariants.{Known}
 use Rattle.transfer.specs.declared.state.Transfer.{Transfer}
 
 -- an accepted fragment of the transfer: it stands at the next offset, ends within the buffer and the declared length, and is
@@ -30,11 +29,6 @@ pub record AcceptedBy (transfer : Transfer) (room count offset next : ℕ) (decl
   pub in_room : next ≤ room
   pub in_length : passes_length declared next room ≡ false
   pub not_early : ends_early declared last next ≡ false
-
--- a fragment that is not too long ends within the buffer
-pub short_fits : (room offset count : ℕ) (declared : Declared) → is_long room offset count declared ≡ false → offset + count ≤ room
-unfolding is_long
-short_fits room offset count declared h = ltb-false room (offset + count) (neither (ltb room (offset + count)) (passes_length declared (offset + count) room) h).first
 
 module _ (offset next : ℕ) (declared : Declared) (last : Bool) where
   abbrev Accepts : Verdict → Type 0
@@ -91,7 +85,7 @@ module _ (offset next : ℕ) (declared : Declared) (last : Bool) where
   fragment_accepted transfer room (judged.packet p) e = accepted_form transfer room p.items (form_of p.items) (kept (eqb p.opcode fragment_opcode) _ other_opcode e).on
 
 -- a last fragment reaches the declared length exactly
-pub last_reaches : (total next room : ℕ) → passes_length (Known total) next room ≡ false → ends_early (Known total) true next ≡ false → next ≡ total
+pub last_reaches : (total next room : ℕ) → passes_length (Some total) next room ≡ false → ends_early (Some total) true next ≡ false → next ≡ total
 unfolding passes_length ends_early
 last_reaches total next room within late =
     let most : next ≤ total = ltb-false total next (neither (ltb total next) (ltb room total) within).first in

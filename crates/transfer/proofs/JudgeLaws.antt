@@ -1,51 +1,28 @@
--- The laws of judging a fragment, one for each way through the code: what the tests on the way say settles the verdict, and
--- the verdict settles what becomes of the transfer and the file buffer.
+-- What the packet reader answered settles the verdict or leaves it to the form, and the verdict settles what becomes of the transfer and
+-- the file buffer.
 use mathlib.Core.Path.{◌≡◌, sym, ◌∙◌}
-use mathlib.Core.Bool.{Bool, true, false}
 use mathlib.Core.List.{List}
-use Prim.Native.Nat.{ℕ, ◌+◌, ◌≤◌, ◌<◌}
-use lib.ListN.{length}
-use borrow.Author.Tests.{eq-eqb, ne_eqb, lt-ltb, le-ltb}
-use Rattle.refusals.specs.Numbers.{other_opcode, other_location, wrong_offset}
+use Prim.Native.Nat.{ℕ}
+use borrow.Author.Tests.{eq-eqb, ne_eqb}
+use Rattle.refusals.specs.Numbers.{other_opcode}
+use Rattle.std.specs.Prelude.{Ok}
 use Rattle.slices.proofs.Impossible.{impossible}
 use Rattle.slices.specs.Put.{put_at}
-use Rattle.slices.specs.Same.{same_bytes}
-use Rattle.packet.specs.ItemTypes.{binary_kind, location_kind}
-use Rattle.packet.specs.Items.{Item, value_in}
+use Rattle.packet.specs.ItemTypes.{binary_kind}
+use Rattle.packet.specs.Items.{value_bytes}
 use Rattle.packet.specs.Packet as judged
 use Rattle.packet.specs.Packet.{Judged, judged_items, packet_items}
+use Rattle.packet.specs.Answers.{item_at}
+use Rattle.packet.proofs.FoundLaws.{value_found}
 use Rattle.packet.specs.Answers as packet_answers
 use Rattle.packet.specs.declared.reading.Reading.TheVariants as packet_reading
-use Rattle.transfer.specs.Fragment.{good, form_of}
-use Rattle.transfer.specs.Transfer.{fragment_opcode, accepted, refused, refused_with, location_of, known_length, passes_length, is_long, goes_on, judge_end, judge_form, verdict_of, advanced, outcome_by, file_by, verdict_for, Takes}
-use Rattle.transfer.specs.declared.state.Declared.{Declared}
+use Rattle.transfer.specs.Fragment.{form_of}
+use Rattle.transfer.specs.Transfer.{fragment_opcode, refused, refused_with, judge_form, verdict_of, advanced, outcome_by, file_by, verdict_for, Takes}
 use Rattle.transfer.specs.declared.state.Transfer.{Transfer}
+use Rattle.transfer.specs.Steps.{parts_of, as_verdict}
+use Rattle.transfer.specs.declared.judging.Accepted as code
+use Rattle.transfer.proofs.StepLaws.{verdict_told, binary_told}
 use Rattle.transfer.specs.declared.taking.Answer.TheVariants as answer
-
--- whether a fragment is too long
-module _ (room offset count : ℕ) (declared : Declared) where
-  pub long_past_room : room < offset + count → is_long room offset count declared ≡ true
-  unfolding is_long
-  long_past_room h = rw (lt-ltb room (offset + count) h)
-
-  pub long_in_room : offset + count ≤ room → is_long room offset count declared ≡ passes_length declared (offset + count) room
-  unfolding is_long
-  long_in_room h = rw (le-ltb room (offset + count) h)
-
--- a fragment of a good form
-module _ (transfer : Transfer) (room : ℕ) (items : List Item) (offset : ℕ) (declared : Declared) (last : Bool) where
-  pub form_other : same_bytes (value_in location_kind items) (location_of transfer) ≡ false → judge_form transfer room items (good offset declared last) ≡ refused other_location
-  unfolding judge_form
-  form_other h = rw h
-
-  module _ (ours : same_bytes (value_in location_kind items) (location_of transfer) ≡ true) where
-    pub form_gap : goes_on transfer offset ≡ false → judge_form transfer room items (good offset declared last) ≡ refused wrong_offset
-    unfolding judge_form
-    form_gap h = rw (ours, h)
-
-    pub form_next : goes_on transfer offset ≡ true → judge_form transfer room items (good offset declared last) ≡ judge_end room offset (length (value_in binary_kind items)) (known_length declared transfer.declared) last
-    unfolding judge_form
-    form_next h = rw (ours, h)
 
 -- what the packet reader answered
 module _ (transfer : Transfer) (room : ℕ) where
@@ -68,16 +45,26 @@ module _ (transfer : Transfer) (room : ℕ) where
       rw (ne_eqb p.opcode fragment_opcode (λ same. isn't (sym o ∙ same)))
   verdict_other (judged.refused found) opcode id e isn't = impossible cc
 
+-- for the search
+pub ruleset read = (verdict_refused, verdict_fragment, verdict_other)
+
 -- a refusal changes nothing; an accepted fragment is written at its offset
 module _ (transfer : Transfer) (bytes file : List ℕ) where
   pub takes_nothing : (number : ℕ) → verdict_for transfer bytes file ≡ refused number → Takes transfer bytes file file (refused_with transfer number)
   unfolding outcome_by file_by
   takes_nothing number e = record { answered = rw e; written = rw e }
 
+  -- `fragment` is what the code says of the accepted one
   pub takes_fragment :
-      (after : List ℕ) (offset next : ℕ) (declared : Declared) (last : Bool)
-      → verdict_for transfer bytes file ≡ accepted offset next declared last
-      → after ≡ put_at file offset (value_in binary_kind (packet_items bytes))
-      → Takes transfer bytes file after (record { transfer = advanced transfer next declared last; answer = answer.Accepted })
+      (value after : List ℕ) (fragment : code.Accepted)
+      → Ok fragment ≡ as_verdict (parts_of bytes).binary (verdict_for transfer bytes file)
+      → value ≡ value_bytes (item_at bytes fragment.binary)
+      → after ≡ put_at file fragment.offset value
+      → Takes transfer bytes file after (record { transfer = advanced transfer fragment.next fragment.declared fragment.last; answer = answer.Accepted })
   unfolding outcome_by file_by
-  takes_fragment after offset next declared last e put = record { answered = rw e; written = rw e put }
+  takes_fragment value after fragment e found put =
+      let verdict = verdict_for transfer bytes file in
+      let told = verdict_told (parts_of bytes).binary verdict (Ok fragment) e in
+      let place = binary_told (parts_of bytes).binary verdict fragment e in
+      let is = found ∙ value_found bytes binary_kind fragment.binary (sym place) in
+      record { answered = rw told; written = rw (told, ← is) put }

@@ -1,5 +1,4 @@
 pub mod AcceptedLaws
-pub mod FormLaws
 pub mod JudgeLaws
 pub mod PartLaws
 pub mod StepLaws

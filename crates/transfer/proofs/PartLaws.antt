@@ -1,52 +1,17 @@
 -- The laws of a packet's parts: their counts settle whether the items are right, and what is found of a kind has the value of the
 -- first item of the kind.
-use mathlib.Core.Path.{◌≡◌, sym, ap, ◌∙◌}
-use mathlib.Core.Bool.{false}
+use mathlib.Core.Path.{◌≡◌, refl, sym, ap, ◌∙◌}
 use mathlib.Core.List.{List}
-use Prim.Native.Nat.{ℕ, ◌+◌, ◌≤◌, ◌<◌}
-use lib.Dec.{eqb, ltb}
-use borrow.Author.Tests.{ne_eqb, le-leb, lt-leb}
-use Rattle.packet.specs.ItemTypes.{length_kind}
+use Prim.Native.Nat.{ℕ}
+use lib.Dec.{ltb}
+use Rattle.packet.specs.ItemTypes.{binary_kind, offset_kind, length_kind, location_kind}
 use Rattle.packet.specs.Items.{count_of, value_bytes, value_in}
 use Rattle.packet.specs.Packet.{head_length, packet_items}
 use Rattle.packet.specs.Answers.{Found, find_in, item_at}
 use Rattle.packet.proofs.FoundLaws.{value_found}
-use Rattle.transfer.specs.Fragment.{right_items, is_last, good}
-use Rattle.transfer.specs.Steps.{parts_of, right_parts, fragment_with, as_form}
-use Rattle.transfer.specs.declared.state.Declared.{Declared}
+use Rattle.transfer.specs.Fragment.{right_items, is_last}
+use Rattle.transfer.specs.Steps.{parts_of, right_parts}
 use Rattle.transfer.specs.declared.parts.Parts.{Parts}
-use Rattle.transfer.specs.declared.fragment.Fragment.{Fragment}
-use Rattle.transfer.specs.declared.fragment.Form.TheVariants.{Good}
-
--- the counts of the kinds, tested in their order
-module _ (parts : Parts) where
-  pub parts_location : (parts.locations ≡ 1 → ⊥) → right_parts parts ≡ false
-  unfolding right_parts
-  parts_location h = rw (ne_eqb parts.locations 1 h)
-
-  module _ (location : parts.locations ≡ 1) where
-    pub parts_offset : (parts.offsets ≡ 1 → ⊥) → right_parts parts ≡ false
-    unfolding right_parts
-    parts_offset h = rw (location, ne_eqb parts.offsets 1 h)
-
-    module _ (offset : parts.offsets ≡ 1) where
-      pub parts_binary : (parts.binaries ≡ 1 → ⊥) → right_parts parts ≡ false
-      unfolding right_parts
-      parts_binary h = rw (location, offset, ne_eqb parts.binaries 1 h)
-
-      module _ (binary : parts.binaries ≡ 1) where
-        pub parts_lengths : 1 < parts.lengths → right_parts parts ≡ false
-        unfolding right_parts
-        parts_lengths h = rw (location, offset, binary, lt-leb parts.lengths 1 h)
-
-        module _ (lengths : parts.lengths ≤ 1) where
-          pub parts_ends : 1 < parts.ends → right_parts parts ≡ false
-          unfolding right_parts
-          parts_ends h = rw (location, offset, binary, le-leb parts.lengths 1 lengths, lt-leb parts.ends 1 h)
-
-          pub parts_all : parts.ends ≤ 1 → right_parts parts ≡ eqb parts.all (parts.lengths + parts.ends + 3)
-          unfolding right_parts
-          parts_all h = rw (location, offset, binary, le-leb parts.lengths 1 lengths, le-leb parts.ends 1 h)
 
 -- the parts of a packet: what they say of its items
 module _ (bytes : List ℕ) (parts : Parts) (same : parts ≡ parts_of bytes) where
@@ -61,11 +26,21 @@ module _ (bytes : List ℕ) (parts : Parts) (same : parts ≡ parts_of bytes) wh
   pub lengths_by_parts : parts.lengths ≡ count_of length_kind (packet_items bytes)
   lengths_by_parts = rw same
 
-  pub good_by_parts : (fragment : Fragment) (offset : ℕ) (declared : Declared) → fragment ≡ fragment_with parts offset declared (ltb 0 parts.ends)
-      → Good fragment ≡ as_form bytes (good offset declared (is_last (packet_items bytes)))
-  unfolding is_last
-  good_by_parts fragment offset declared made = ap Good (rw same at made)
-
   -- what is found of a kind has the value of the first item of the kind
-  pub part_value : (place : Parts → Found) (kind : ℕ) → find_in head_length kind (packet_items bytes) ≡ place (parts_of bytes) → value_bytes (item_at bytes (place parts)) ≡ value_in kind (packet_items bytes)
-  part_value place kind found = value_found bytes kind (place parts) (found ∙ ap place (sym same))
+  value_by : (place : Parts → Found) (kind : ℕ) → find_in head_length kind (packet_items bytes) ≡ place (parts_of bytes) → value_bytes (item_at bytes (place parts)) ≡ value_in kind (packet_items bytes)
+  value_by place kind found = value_found bytes kind (place parts) (found ∙ ap place (sym same))
+
+  pub location_value : value_bytes (item_at bytes parts.location) ≡ value_in location_kind (packet_items bytes)
+  location_value = value_by (λ (p : Parts). p.location) location_kind refl
+
+  pub offset_value : value_bytes (item_at bytes parts.offset) ≡ value_in offset_kind (packet_items bytes)
+  offset_value = value_by (λ (p : Parts). p.offset) offset_kind refl
+
+  pub binary_value : value_bytes (item_at bytes parts.binary) ≡ value_in binary_kind (packet_items bytes)
+  binary_value = value_by (λ (p : Parts). p.binary) binary_kind refl
+
+  pub length_value : value_bytes (item_at bytes parts.length) ≡ value_in length_kind (packet_items bytes)
+  length_value = value_by (λ (p : Parts). p.length) length_kind refl
+
+-- what the parts of a packet say, for the search
+pub ruleset of_parts = (right_by_parts, last_by_parts, lengths_by_parts, location_value, offset_value, binary_value, length_value)

@@ -1,55 +1,56 @@
--- What the code's answers say of the definitions: each translation is one to one, so an answer of the code tells what was translated.
-use mathlib.Core.Path.{◌≡◌, refl}
-use mathlib.Core.Bool.{Bool}
-use mathlib.Core.List.{List}
+-- What the code's answers say of the definitions: each translation is one to one, so an answer, read back, is what was translated.
+use mathlib.Core.Path.{◌≡◌, refl, sym, ap, ◌∙◌}
 use mathlib.Core.Option.{Option, none, some}
 use Prim.Native.Nat.{ℕ}
+use Rattle.std.specs.Prelude.{Some, None, Result, Ok, Err}
+use Rattle.std.specs.declared.option.Option as rust
 use Rattle.slices.proofs.Impossible.{impossible}
 use Rattle.packet.specs.Answers.{Found}
 use Rattle.transfer.specs.Fragment.{Form, good, bad}
 use Rattle.transfer.specs.Transfer.{Verdict, accepted, refused}
-use Rattle.transfer.specs.Steps.{parts_of, as_number, fragment_with, as_form, as_verdict}
-use Rattle.transfer.specs.declared.state.Declared.{Declared}
-use Rattle.transfer.specs.declared.fragment.Number.TheVariants.{Is, NoNumber}
+use Rattle.transfer.specs.Steps.{as_number, as_form, as_verdict}
 use Rattle.transfer.specs.declared.fragment.Fragment.{Fragment}
-use Rattle.transfer.specs.declared.fragment.Form.TheVariants.{Good, Bad}
-use Rattle.transfer.specs.declared.judging.Verdict.TheVariants.{Accepted, Refused}
+use Rattle.transfer.specs.declared.judging.Accepted as code
 
-pub number_told : (o : Option ℕ) (n : ℕ) → as_number o ≡ Is n → o ≡ some n
-number_told (some m) n e = cc
-number_told none n e = impossible cc
+-- what an answer reads back as
+module _ {A B : Type 0} (translated : A → B) (back : B → A) (same : (a : A) → back (translated a) ≡ a) where
+  told_by : (a : A) (b : B) → b ≡ translated a → a ≡ back b
+  told_by a b e = sym (ap back e ∙ same a)
 
-pub no_number_told : (o : Option ℕ) → as_number o ≡ NoNumber → o ≡ none
-no_number_told (some m) e = impossible cc
-no_number_told none e = refl
+abbrev pub number_back : rust.Option ℕ → Option ℕ
+number_back (Some n) = some n
+number_back None = none
 
--- the form of a packet's items, and the places that a good one has
-pub record FormTold (bytes : List ℕ) (f : Form) (fragment : Fragment) : Type 0 where
-  pub said : f ≡ good fragment.offset fragment.declared fragment.last
-  pub location_at : fragment.location ≡ (parts_of bytes).location
-  pub binary_at : fragment.binary ≡ (parts_of bytes).binary
+pub number_told : (o : Option ℕ) (answer : rust.Option ℕ) → answer ≡ as_number o → o ≡ number_back answer
+number_told = told_by as_number number_back same
+  where
+    same : (o : Option ℕ) → number_back (as_number o) ≡ o
+    same (some n) = refl
+    same none = refl
 
-pub form_told : (bytes : List ℕ) (f : Form) (fragment : Fragment) → as_form bytes f ≡ Good fragment → FormTold bytes f fragment
-form_told bytes (good offset declared last) fragment e =
-    let same : fragment ≡ fragment_with (parts_of bytes) offset declared last = cc in
-    record { said = rw same; location_at = rw same; binary_at = rw same }
-form_told bytes bad fragment e = impossible cc
+abbrev pub form_back : rust.Option Fragment → Form
+form_back (Some fragment) = good fragment.offset fragment.declared fragment.last
+form_back None = bad
 
-pub bad_told : (bytes : List ℕ) (f : Form) → as_form bytes f ≡ Bad → f ≡ bad
-bad_told bytes (good offset declared last) e = impossible cc
-bad_told bytes bad e = refl
+pub form_told : (f : Form) (answer : rust.Option Fragment) → answer ≡ as_form f → f ≡ form_back answer
+form_told = told_by as_form form_back same
+  where
+    same : (f : Form) → form_back (as_form f) ≡ f
+    same (good offset declared last) = refl
+    same bad = refl
 
--- an accepted fragment, and the place of its Binary
-pub record AcceptedTold (binary : Found) (v : Verdict) (place : Found) (offset next : ℕ) (declared : Declared) (last : Bool) : Type 0 where
-  pub said : v ≡ accepted offset next declared last
-  pub binary_at : place ≡ binary
+abbrev pub verdict_back : Result code.Accepted ℕ → Verdict
+verdict_back (Ok a) = accepted a.offset a.next a.declared a.last
+verdict_back (Err n) = refused n
 
-pub accepted_told : (binary : Found) (v : Verdict) (place : Found) (offset next : ℕ) (declared : Declared) (last : Bool)
-    → as_verdict binary v ≡ Accepted place offset next declared last
-    → AcceptedTold binary v place offset next declared last
-accepted_told binary (accepted at end length_known ends) place offset next declared last e = record { said = cc; binary_at = cc }
-accepted_told binary (refused m) place offset next declared last e = impossible cc
+pub verdict_told : (binary : Found) (v : Verdict) (answer : Result code.Accepted ℕ) → answer ≡ as_verdict binary v → v ≡ verdict_back answer
+verdict_told binary = told_by (as_verdict binary) verdict_back same
+  where
+    same : (v : Verdict) → verdict_back (as_verdict binary v) ≡ v
+    same (accepted offset next declared last) = refl
+    same (refused n) = refl
 
-pub refused_told : (binary : Found) (v : Verdict) (n : ℕ) → as_verdict binary v ≡ Refused n → v ≡ refused n
-refused_told binary (accepted offset next declared last) n e = impossible cc
-refused_told binary (refused m) n e = cc
+-- and the place of an accepted fragment's Binary
+pub binary_told : (binary : Found) (v : Verdict) (a : code.Accepted) → Ok a ≡ as_verdict binary v → a.binary ≡ binary
+binary_told binary (accepted offset next declared last) a e = let is : a ≡ record { binary = binary; offset = offset; next = next; declared = declared; last = last } = cc in rw is
+binary_told binary (refused n) a e = impossible cc

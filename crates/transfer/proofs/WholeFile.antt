@@ -7,6 +7,7 @@ use mathlib.Core.List.{List, [], ◌++◌, append-nil}
 use Prim.Native.Nat.{ℕ, ◌+◌, ◌≤◌}
 use native.Mathlib.Omega.{arith}
 use lib.ListN.{length, take, drop, length-append}
+use Rattle.std.specs.Prelude.{Some}
 use Rattle.refusals.specs.Numbers.{bad_fragment}
 use Rattle.slices.proofs.Impossible.{impossible}
 use Rattle.slices.specs.Put.{put_at}
@@ -15,11 +16,10 @@ use Rattle.packet.specs.ItemTypes.{binary_kind}
 use Rattle.packet.specs.Items.{value_in}
 use Rattle.packet.specs.Names.{valid_location}
 use Rattle.packet.specs.Packet.{packet_of, packet_items}
+use Rattle.transfer.specs.Fragment.{Declared}
 use Rattle.transfer.specs.Transfer.{Verdict, accepted, refused, fresh_transfer, refused_with, start_of, outcome_by, file_by, verdict_for, Takes}
 use Rattle.transfer.specs.Calls.{Held, accepted_bytes, started, left}
 use Rattle.transfer.specs.declared.taking.Answer.TheVariants as answer
-use Rattle.transfer.specs.declared.state.Declared.{Declared}
-use Rattle.transfer.specs.declared.state.Declared.TheVariants.{Known}
 use Rattle.transfer.specs.declared.taking.Outcome.{Outcome}
 use Rattle.transfer.proofs.FileCalls.{Starts, Calls, none, call, was_started, was_taken}
 use Rattle.transfer.proofs.AcceptedLaws.{AcceptedBy, fragment_accepted, last_reaches}
@@ -30,7 +30,7 @@ record Holds (first : List ℕ) (held : Held) : Type 0 where
   laid : held.file ≡ put_at first 0 held.joined
   counted : held.transfer.next ≡ length held.joined
   fits : length held.joined ≤ length first
-  whole : (total : ℕ) → held.transfer.complete ≡ true → held.transfer.declared ≡ Known total → held.transfer.next ≡ total
+  whole : (total : ℕ) → held.transfer.complete ≡ true → held.transfer.declared ≡ Some total → held.transfer.next ≡ total
 
 -- one call keeps it
 module _ (first : List ℕ) (held : Held) (holds : Holds first held) (bytes : List ℕ) where
@@ -116,5 +116,5 @@ module _ (location file : List ℕ) (first : Outcome) (starts : Starts location 
       let size : 0 + length end.joined ≤ end.transfer.next = omega (arith, holds.counted) in
       rw holds.laid (put_beyond file 0 end.joined end.transfer.next size)
 
-  pub completed_file_has_the_declared_length : (total : ℕ) → end.transfer.complete ≡ true → end.transfer.declared ≡ Known total → end.transfer.next ≡ total
+  pub completed_file_has_the_declared_length : (total : ℕ) → end.transfer.complete ≡ true → end.transfer.declared ≡ Some total → end.transfer.next ≡ total
   completed_file_has_the_declared_length = holds_at_end.whole

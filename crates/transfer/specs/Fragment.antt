@@ -1,12 +1,11 @@
 -- 01, File fragments: what a packet's items say as a fragment, and when they have a good form.
-use Rattle.std.specs.Prelude.{ℕ, ◌+◌, Bool, cond, ◌&&◌, ◌||◌, List, leb, ltb, eqb, length}
+use Rattle.std.specs.Prelude.{ℕ, ◌+◌, Bool, cond, ◌&&◌, ◌||◌, List, leb, ltb, eqb, length, Some, None}
+use Rattle.std.specs.declared.option.Option as rust
 use Rattle.std.proofs.Math.Option.{Option, none, some}
 use Rattle.slices.specs.HighFirst.{word_of}
 use Rattle.packet.specs.ItemTypes.{binary_kind, offset_kind, length_kind, location_kind, eof_kind}
 use Rattle.packet.specs.Items.{Item, count_of, value_in}
 use Rattle.packet.specs.Names.{valid_location}
-use Rattle.transfer.specs.declared.state.Declared.{Declared}
-use Rattle.transfer.specs.declared.state.Declared.TheVariants.{Unknown, Known}
 
 -- 01, File fragments: Offset and Length are unsigned, 1, 2 or 4 bytes. The high byte is first, as in all of 01.
 unfoldable pub number_of : List ℕ → Option ℕ
@@ -36,6 +35,10 @@ right_binary items = ltb 0 (length (value_in binary_kind items)) || is_last item
 unfoldable pub right_location : List Item → Bool
 right_location items = valid_location (value_in location_kind items)
 
+-- the length of the file, once a fragment has declared it
+abbrev pub Declared : Type 0
+Declared = rust.Option ℕ
+
 -- the form of a fragment: where it is good, its offset, the length that it declares, and whether it is the last
 pub data Form : Type 0 where
   good : (offset : ℕ) (declared : Declared) (last : Bool) → Form
@@ -43,7 +46,7 @@ pub data Form : Type 0 where
 
 -- a fragment at the offset, with the length that its Length item declares
 unfoldable pub declaring : ℕ → Bool → Option ℕ → Form
-declaring offset last (some total) = good offset (Known total) last
+declaring offset last (some total) = good offset (Some total) last
 declaring offset last none = bad
 
 -- 01, File fragments: Length may stand only at offset 0
@@ -51,7 +54,7 @@ unfoldable pub form_at : List Item → Option ℕ → Form
 form_at items none = bad
 form_at items (some offset) =
     cond (eqb (count_of length_kind items) 0)
-    (good offset Unknown (is_last items))
+    (good offset None (is_last items))
     (cond (eqb offset 0) (declaring offset (is_last items) (number_of (value_in length_kind items))) bad)
 
 -- 01, File fragments: all else is 20

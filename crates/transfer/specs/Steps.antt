@@ -1,5 +1,6 @@
 -- What the steps of the receiver answer, as the code's own types. The proofs of `take` tie these to the definitions of Fragment and Transfer.
-use Rattle.std.specs.Prelude.{ℕ, ◌+◌, Bool, ◌&&◌, List, leb, eqb}
+use Rattle.std.specs.Prelude.{ℕ, ◌+◌, Bool, ◌&&◌, List, leb, eqb, Some, None, Result, Ok, Err}
+use Rattle.std.specs.declared.option.Option as rust
 use Rattle.std.proofs.Math.Option.{Option, none, some}
 use Rattle.packet.specs.ItemTypes.{binary_kind, offset_kind, length_kind, location_kind, eof_kind}
 use Rattle.packet.specs.Items.{count_of}
@@ -8,12 +9,9 @@ use Rattle.packet.specs.Answers.{Found, find_in, look_of}
 use Rattle.packet.specs.declared.reading.Look.{Look}
 use Rattle.transfer.specs.Fragment.{Form, good, bad}
 use Rattle.transfer.specs.Transfer.{Verdict, accepted, refused}
-use Rattle.transfer.specs.declared.state.Declared.{Declared}
 use Rattle.transfer.specs.declared.parts.Parts.{Parts}
-use Rattle.transfer.specs.declared.fragment.Number as number
 use Rattle.transfer.specs.declared.fragment.Fragment.{Fragment}
-use Rattle.transfer.specs.declared.fragment.Form as form
-use Rattle.transfer.specs.declared.judging.Verdict as verdict
+use Rattle.transfer.specs.declared.judging.Accepted as code
 
 -- the parts of a packet in which Locations have been looked for: one look for each other kind
 abbrev pub parts_with : Look → List ℕ → Parts
@@ -45,27 +43,17 @@ right_parts parts =
     && eqb parts.all (parts.lengths + parts.ends + 3)
 
 -- what the bytes of an Offset or a Length say
-abbrev pub as_number : Option ℕ → number.Number
-as_number (some n) = number.TheVariants.Is n
-as_number none = number.TheVariants.NoNumber
-
--- a fragment with the places of its Location and of its Binary
-abbrev pub fragment_with : Parts → ℕ → Declared → Bool → Fragment
-fragment_with parts offset declared last =
-    record {
-      location = parts.location;
-      binary = parts.binary;
-      offset = offset;
-      declared = declared;
-      last = last;
-    }
+abbrev pub as_number : Option ℕ → rust.Option ℕ
+as_number (some n) = Some n
+as_number none = None
 
 -- the form of a packet's items
-abbrev pub as_form : List ℕ → Form → form.Form
-as_form bytes (good offset declared last) = form.TheVariants.Good (fragment_with (parts_of bytes) offset declared last)
-as_form bytes bad = form.TheVariants.Bad
+abbrev pub as_form : Form → rust.Option Fragment
+as_form (good offset declared last) = Some (record { offset = offset; declared = declared; last = last })
+as_form bad = None
 
 -- the verdict on a packet, with the place of its Binary
-abbrev pub as_verdict : Found → Verdict → verdict.Verdict
-as_verdict binary (accepted offset next declared last) = verdict.TheVariants.Accepted binary offset next declared last
-as_verdict binary (refused n) = verdict.TheVariants.Refused n
+abbrev pub as_verdict : Found → Verdict → Result code.Accepted ℕ
+as_verdict binary (accepted offset next declared last) =
+    Ok (record { binary = binary; offset = offset; next = next; declared = declared; last = last })
+as_verdict binary (refused n) = Err n

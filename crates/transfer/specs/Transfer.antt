@@ -1,6 +1,7 @@
 -- 01, File fragments: a transfer, how it starts and what a fragment packet does to it and to the lent file buffer.
-use Rattle.std.specs.Prelude.{ℕ, ◌+◌, ◌≡◌, Bool, false, cond, not, ◌&&◌, ◌||◌, List, [], ltb, eqb, length, take, replicate}
+use Rattle.std.specs.Prelude.{ℕ, ◌+◌, ◌≡◌, Bool, false, cond, not, ◌&&◌, ◌||◌, List, [], ltb, eqb, length, Some, None}
 use Rattle.refusals.specs.Numbers.{other_opcode, other_location, wrong_offset, past_length, early_end, bad_fragment}
+use Rattle.slices.specs.FixedBytes.{fixed_of, shown}
 use Rattle.slices.specs.Put.{put_at}
 use Rattle.slices.specs.Same.{same_bytes}
 use Rattle.packet.specs.ItemTypes.{binary_kind, location_kind}
@@ -8,9 +9,7 @@ use Rattle.packet.specs.Items.{Item, value_in}
 use Rattle.packet.specs.Names.{longest_location, valid_location}
 use Rattle.packet.specs.Packet as judged
 use Rattle.packet.specs.Packet.{Judged, packet_of, packet_items}
-use Rattle.transfer.specs.Fragment.{Form, good, bad, form_of}
-use Rattle.transfer.specs.declared.state.Declared.{Declared}
-use Rattle.transfer.specs.declared.state.Declared.TheVariants.{Unknown, Known}
+use Rattle.transfer.specs.Fragment.{Declared, Form, good, bad, form_of}
 use Rattle.transfer.specs.declared.state.Transfer.{Transfer}
 use Rattle.transfer.specs.declared.taking.Answer.TheVariants as answer
 use Rattle.transfer.specs.declared.taking.Outcome.{Outcome}
@@ -24,10 +23,9 @@ fragment_opcode = 0x0b
 abbrev pub fresh_transfer : List ℕ → Transfer
 fresh_transfer location =
     record {
-      location = put_at (replicate longest_location 0) 0 location;
-      length = length location;
+      location = fixed_of longest_location location;
       next = 0;
-      declared = Unknown;
+      declared = None;
       complete = false;
     }
 
@@ -45,22 +43,22 @@ start_of location =
 
 -- the location of a transfer: as many of its location bytes as their length says
 abbrev pub location_of : Transfer → List ℕ
-location_of transfer = take transfer.length transfer.location
+location_of transfer = shown transfer.location
 
 -- the length that is known once a fragment has come: the one that it declares, or else the transfer's
 abbrev pub known_length : Declared → Declared → Declared
-known_length Unknown before = before
-known_length (Known total) before = Known total
+known_length None before = before
+known_length (Some total) before = Some total
 
 -- the declared length is passed by a fragment that ends at end, or passes the room of the lent buffer itself
 unfoldable pub passes_length : Declared → ℕ → ℕ → Bool
-passes_length Unknown end room = false
-passes_length (Known total) end room = ltb total end || ltb room total
+passes_length None end room = false
+passes_length (Some total) end room = ltb total end || ltb room total
 
 -- 01, Refusal numbers, 19: EOF before the declared length
 unfoldable pub ends_early : Declared → Bool → ℕ → Bool
-ends_early Unknown last end = false
-ends_early (Known total) last end = last && ltb end total
+ends_early None last end = false
+ends_early (Some total) last end = last && ltb end total
 
 -- 01, Refusal numbers, 18: the fragment or the declared length passes the declared length or the lent buffer. A fragment of
 -- count bytes at offset ends at their sum.
@@ -105,7 +103,6 @@ abbrev pub advanced : Transfer → ℕ → Declared → Bool → Transfer
 advanced transfer next declared last =
     record {
       location = transfer.location;
-      length = transfer.length;
       next = next;
       declared = declared;
       complete = last;

@@ -7,5 +7,5 @@ mod parts;
 mod state;
 mod taking;
 
-pub use state::{Declared, Transfer};
+pub use state::Transfer;
 pub use taking::{Answer, Outcome, start, take};

@@ -30,10 +30,6 @@ pub(crate) fn find_parts(packet: &[u8], locations: Look) -> Parts
     let binaries = look_for(packet, BINARY_KIND);
     let lengths = look_for(packet, LENGTH_KIND);
     let ends = look_for(packet, EOF_KIND);
-    let location = locations.first;
-    let offset = offsets.first;
-    let binary = binaries.first;
-    let length = lengths.first;
     Parts {
         all: locations.all,
         locations: locations.count,
@@ -41,34 +37,23 @@ pub(crate) fn find_parts(packet: &[u8], locations: Look) -> Parts
         binaries: binaries.count,
         lengths: lengths.count,
         ends: ends.count,
-        location,
-        offset,
-        binary,
-        length,
+        location: locations.first,
+        offset: offsets.first,
+        binary: binaries.first,
+        length: lengths.first,
     }
 }
 
 // Whether the items are one Location, one Offset, one Binary, at most one Length and at most one
 // EOF, and nothing else.
+#[tactic(auto, unfolding(crate::specs::Steps::right_parts))]
 pub(crate) fn right_items(parts: Parts) -> bool
     ensures { result ≡ right_parts parts }
 {
-    if parts.locations != 1 {
-        return false;
-    }
-    if parts.offsets != 1 {
-        return false;
-    }
-    if parts.binaries != 1 {
-        return false;
-    }
-    if 1 < parts.lengths {
-        return false;
-    }
-    if 1 < parts.ends {
-        return false;
-    }
-    let optional = parts.lengths + parts.ends;
-    let known = optional + REQUIRED_ITEMS;
-    parts.all == known
+    parts.locations == 1
+        && parts.offsets == 1
+        && parts.binaries == 1
+        && parts.lengths <= 1
+        && parts.ends <= 1
+        && parts.all == parts.lengths + parts.ends + REQUIRED_ITEMS
 }

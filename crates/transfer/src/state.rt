@@ -3,52 +3,46 @@ ghost use Rattle.std.specs.Prelude.{◌≡◌};
 ghost use Rattle.slices.specs.Same.{same_bytes};
 ghost use Rattle.transfer.specs.Transfer.{fresh_transfer, location_of, goes_on, advanced};
 
+use slices::FixedBytes;
+
 // How many bytes a transfer has for its location.
 const LOCATION_ROOM: usize = packet::LONGEST_LOCATION;
 
-// The length of the file, once a fragment has declared it.
-#[derive(Clone, Copy)]
-pub enum Declared {
-    Unknown,
-    Known(usize),
-}
-
-// A transfer of one file. Its location is the first `length` of its location bytes; `next`
-// is the offset of the next fragment and the number of bytes written so far.
+// A transfer of one file. `next` is the offset of the next fragment and the number of bytes written
+// so far, and `declared` the length of the file, once a fragment has declared it.
 #[derive(Clone, Copy)]
 pub struct Transfer {
-    pub location: [u8; LOCATION_ROOM],
-    pub length: usize,
+    pub location: FixedBytes<LOCATION_ROOM>,
     pub next: usize,
-    pub declared: Declared,
+    pub declared: Option<usize>,
     pub complete: bool,
 }
 
 pub(crate) fn fresh(location: &[u8]) -> Transfer
     ensures { result ≡ fresh_transfer location.now }
 {
-    let mut bytes = [0u8; LOCATION_ROOM];
-    slices::put(&mut bytes, 0, location);
     Transfer {
-        location: bytes,
-        length: location.len(),
+        location: FixedBytes::of(location),
         next: 0,
-        declared: Declared::Unknown,
+        declared: None,
         complete: false,
     }
 }
 
 // The transfer after an accepted fragment.
-pub(crate) fn advanced(transfer: Transfer, next: usize, declared: Declared, last: bool) -> Transfer
+pub(crate) fn advanced(
+    transfer: Transfer,
+    next: usize,
+    declared: Option<usize>,
+    last: bool,
+) -> Transfer
     ensures { result ≡ advanced transfer next declared last }
 {
-    let location = transfer.location;
     Transfer {
-        location,
-        length: transfer.length,
         next,
         declared,
         complete: last,
+        ..transfer
     }
 }
 
@@ -56,17 +50,13 @@ pub(crate) fn advanced(transfer: Transfer, next: usize, declared: Declared, last
 pub(crate) fn is_of(transfer: Transfer, location: &[u8]) -> bool
     ensures { result ≡ same_bytes location.now (location_of transfer) }
 {
-    let bytes = transfer.location;
-    let own = slices::first(&bytes, transfer.length);
-    slices::same(location, own)
+    slices::same(location, transfer.location.as_slice())
 }
 
 // Whether the transfer goes on at `offset`: it is not complete, and that is its next offset.
+#[tactic(auto, unfolding(crate::specs::Transfer::goes_on))]
 pub(crate) fn goes_on(transfer: Transfer, offset: usize) -> bool
     ensures { result ≡ goes_on transfer offset }
 {
-    if transfer.complete {
-        return false;
-    }
-    offset == transfer.next
+    !transfer.complete && offset == transfer.next
 }

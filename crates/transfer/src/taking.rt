@@ -2,7 +2,7 @@
 ghost use Rattle.std.specs.Prelude.{◌≡◌};
 ghost use Rattle.transfer.specs.Transfer.{refused_with, start_of, Takes};
 
-use crate::judging::{Verdict, judge};
+use crate::judging::judge;
 use crate::state::{Transfer, advanced, fresh};
 use refusals::BAD_FRAGMENT;
 
@@ -21,11 +21,11 @@ pub struct Outcome {
 
 // Starts a transfer of the file at `location`: refusal 20 for a location that is not valid, with a
 // transfer that takes nothing.
+#[tactic(auto, unfolding(crate::specs::Transfer::start_of))]
 pub fn start(location: &[u8]) -> Outcome
     ensures { result ≡ start_of location.now }
 {
-    let valid = packet::valid_location(location);
-    if !valid {
+    if !packet::valid_location(location) {
         return refused(fresh(b""), BAD_FRAGMENT);
     }
     Outcome {
@@ -36,25 +36,20 @@ pub fn start(location: &[u8]) -> Outcome
 
 // Gives a packet to the transfer. The bytes of an accepted fragment are written into `file` at its
 // offset; a refusal changes nothing.
+#[tactic(auto, using(crate::proofs::JudgeLaws::takes_nothing, crate::proofs::StepLaws::verdict_told))]
 pub fn take(transfer: Transfer, packet: &[u8], file: &mut [u8]) -> Outcome
     ensures { Takes transfer packet.now file.old file.new result }
 {
     match judge(transfer, packet, file.len()) {
-        Verdict::Refused(number) => refused(transfer, number),
-        Verdict::Accepted {
-            binary,
-            offset,
-            next,
-            declared,
-            last,
-        } => {
-            let bytes = packet::value_at(packet, binary);
-            slices::put(file, offset, bytes);
+        Ok(fragment) => {
+            let bytes = packet::value_at(packet, fragment.binary);
+            slices::put(file, fragment.offset, bytes);
             Outcome {
-                transfer: advanced(transfer, next, declared, last),
+                transfer: advanced(transfer, fragment.next, fragment.declared, fragment.last),
                 answer: Answer::Accepted,
             }
         }
+        Err(number) => refused(transfer, number),
     }
 }
 

@@ -1,6 +1,6 @@
 // Outcomes and lent buffers as text.
 use cases::{line, print};
-use transfer::{Answer, Declared, Outcome};
+use transfer::{Answer, Outcome};
 
 // How many bytes of a long buffer are shown, its last ones.
 const SHOWN: usize = 10;
@@ -8,17 +8,15 @@ const SHOWN: usize = 10;
 // An answer and the transfer after it.
 pub(crate) fn show(rt: &impl Print, line: &[u8], outcome: Outcome) {
     line::label(rt, line);
-    let answer = outcome.answer;
-    match answer {
+    match outcome.answer {
         Answer::Accepted => print::text(rt, b": accepted"),
         Answer::Refused(refusal) => print::number(rt, b": refused ", refusal as u64),
     }
     let transfer = outcome.transfer;
     print::number(rt, b", next ", transfer.next as u64);
-    let declared = transfer.declared;
-    match declared {
-        Declared::Known(length) => print::number(rt, b", length ", length as u64),
-        Declared::Unknown => print::text(rt, b", length unknown"),
+    match transfer.declared {
+        Some(length) => print::number(rt, b", length ", length as u64),
+        None => print::text(rt, b", length unknown"),
     }
     show_end(rt, transfer.complete);
 }
@@ -32,11 +30,7 @@ fn show_end(rt: &impl Print, complete: bool) {
 }
 
 pub(crate) fn show_file(rt: &impl Print, file: &[u8]) {
-    if SHOWN < file.len() {
-        let start = file.len() - SHOWN;
-        print::bytes(rt, b", file ", &file[start..], SHOWN);
-    } else {
-        print::bytes(rt, b", file ", file, SHOWN);
-    }
+    let start = file.len().saturating_sub(SHOWN);
+    print::bytes(rt, b", file ", &file[start..], SHOWN);
     print::text(rt, b"\n");
 }

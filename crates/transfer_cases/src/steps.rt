@@ -20,9 +20,10 @@ pub struct Receiving {
 pub fn first() -> Receiving
     ensures { (result.transfer ≡ (start_of (0x6c ∷ 0x6f ∷ 0x63 ∷ [])).transfer) × (result.room ≡ 0) }
 {
-    let outcome = transfer::start(b"loc");
-    let transfer = outcome.transfer;
-    Receiving { transfer, room: 0 }
+    Receiving {
+        transfer: transfer::start(b"loc").transfer,
+        room: 0,
+    }
 }
 
 pub(crate) fn start(
@@ -36,16 +37,16 @@ pub(crate) fn start(
     let outcome = transfer::start(location);
     report::show(rt, line, outcome);
     print::text(rt, b"\n");
-    let transfer = outcome.transfer;
     Receiving {
-        transfer,
-        room: state.room,
+        transfer: outcome.transfer,
+        ..state
     }
 }
 
 fn clear(file: &mut [u8]) {
-    let untouched = [0xeeu8; FILE_MAX];
-    slices::put(file, 0, &untouched);
+    for byte in file.iter_mut().take(FILE_MAX) {
+        *byte = 0xee;
+    }
 }
 
 pub(crate) fn give(
@@ -85,28 +86,22 @@ pub(crate) fn give_alone(
     file: &mut [u8],
 ) -> Receiving {
     clear(file);
-    let outcome = transfer::start(b"loc");
-    let transfer = outcome.transfer;
     let fresh = Receiving {
-        transfer,
-        room: state.room,
+        transfer: transfer::start(b"loc").transfer,
+        ..state
     };
     give(rt, fresh, line, packet, file)
 }
 
 pub(crate) fn with_room(state: Receiving, bytes: &[u8]) -> Receiving {
-    let transfer = state.transfer;
     Receiving {
-        transfer,
         room: line::number(bytes) as usize,
+        ..state
     }
 }
 
 pub(crate) fn with_next(state: Receiving, bytes: &[u8]) -> Receiving {
     let mut transfer = state.transfer;
     transfer.next = line::number(bytes) as usize;
-    Receiving {
-        transfer,
-        room: state.room,
-    }
+    Receiving { transfer, ..state }
 }

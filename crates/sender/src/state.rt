@@ -1,6 +1,6 @@
 // The sender between two events, and what an event gives.
 ghost use Rattle.std.specs.Prelude.{◌≡◌};
-ghost use Rattle.sender.specs.State.{next_sequence, fresh_sender, holding, freed};
+ghost use Rattle.sender.specs.State.{next_sequence, no_payload, fresh_sender, holding, freed};
 
 use frame::PAYLOAD_MAX;
 use slices::FixedBytes;
@@ -48,8 +48,14 @@ pub fn fresh() -> Sender
     Sender {
         next: 0,
         held: None,
-        payload: FixedBytes::of(b""),
+        payload: no_payload(),
     }
+}
+
+fn no_payload() -> Payload
+    ensures { result ≡ no_payload }
+{
+    FixedBytes::of(b"")
 }
 
 // The sequence behind another one: 1 behind 255, since 0 is the first alone.
@@ -80,7 +86,7 @@ pub(crate) fn free(sender: Sender) -> Sender
 {
     Sender {
         held: None,
-        payload: FixedBytes::of(b""),
+        payload: no_payload(),
         ..sender
     }
 }

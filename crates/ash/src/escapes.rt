@@ -12,10 +12,7 @@ const FLIPPED_BIT: u8 = 0x20;
 pub(crate) fn is_reserved(byte: u8) -> bool
     ensures { result ≡ reserved byte }
 {
-    match byte {
-        FLAG | ESCAPE | XON | XOFF | UNNAMED => true,
-        _ => false,
-    }
+    matches!(byte, FLAG | ESCAPE | XON | XOFF | UNNAMED)
 }
 
 // A byte with bit 5 flipped.

@@ -15,6 +15,7 @@ pub const WAKE: u8 = 0xff;
 
 // Each of these takes one byte. None: the line goes on. A place: what is held now is a frame to be handed
 // on, and the line is at that place behind it.
+// `Room` is asked, no invariant of `Cutter`: `cut` takes any state, and a frame of 64 bytes leaves none.
 impl Cutter {
     #[tactic(auto, unfolding(crate::specs::Cutting::step_of))]
     pub(crate) fn step(&mut self, byte: u8) -> Option<Place>

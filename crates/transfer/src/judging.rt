@@ -5,10 +5,10 @@ ghost use Rattle.transfer.specs.Fragment.{form_of};
 ghost use Rattle.transfer.specs.Transfer.{passes_length, is_long, ends_early, judge_end, judge_form, verdict_of};
 ghost use Rattle.transfer.specs.Steps.{parts_of, as_verdict};
 
-use crate::fragment::{Fragment, read_form};
-use crate::parts::{Parts, find_parts};
-use crate::state::{Transfer, goes_on, is_of};
-use packet::{Item, LOCATION_KIND, Reading, value_at};
+use crate::fragment::{Candidate, Fragment};
+use crate::parts::find_parts;
+use crate::state::Transfer;
+use packet::{Item, LOCATION_KIND, Reading};
 use refusals::{BAD_FRAGMENT, EARLY_END, OTHER_LOCATION, OTHER_OPCODE, PAST_LENGTH, WRONG_OFFSET};
 
 // The opcode of a fragment packet.
@@ -35,26 +35,27 @@ pub(crate) fn judge(transfer: Transfer, packet: &[u8], room: usize) -> Result<Ac
         Reading::Refused(number) => Err(number),
         Reading::Packet { opcode, .. } if opcode != FRAGMENT => Err(OTHER_OPCODE),
         Reading::Packet { .. } => {
-            judge_form(transfer, packet, room, find_parts(packet, locations))
+            let parts = find_parts(packet, locations);
+            judge_form(transfer, Candidate { packet, parts }, room)
         }
     }
 }
 
-// Tests the form of the packet, whose parts are given, then the fragment against the transfer:
-// location, offset, then where it ends.
+// Tests the form of the candidate, then the fragment against the transfer: location, offset, then where
+// it ends.
 #[tactic(auto, using(crate::proofs::PartLaws::of_parts, crate::proofs::StepLaws::form_told), unfolding(crate::specs::Transfer::judge_form))]
-fn judge_form(transfer: Transfer, packet: &[u8], room: usize, parts: Parts) -> Result<Accepted, u8>
-    requires { parts ≡ parts_of packet.now }
-    ensures { result ≡ as_verdict (parts_of packet.now).binary (judge_form transfer room (packet_items packet.now) (form_of (packet_items packet.now))) }
+fn judge_form(transfer: Transfer, candidate: Candidate<'_>, room: usize) -> Result<Accepted, u8>
+    ensures { result ≡ as_verdict (parts_of candidate.entry.packet.now).binary (judge_form transfer room (packet_items candidate.entry.packet.now) (form_of (packet_items candidate.entry.packet.now))) }
 {
-    let fragment = read_form(packet, parts).ok_or(BAD_FRAGMENT)?;
-    if !is_of(transfer, value_at(packet, parts.location)) {
+    let parts = candidate.parts;
+    let fragment = candidate.form().ok_or(BAD_FRAGMENT)?;
+    if !transfer.is_of(candidate.value(parts.location)) {
         return Err(OTHER_LOCATION);
     }
-    if !goes_on(transfer, fragment.offset) {
+    if !transfer.goes_on(fragment.offset) {
         return Err(WRONG_OFFSET);
     }
-    let count = value_at(packet, parts.binary).len();
+    let count = candidate.value(parts.binary).len();
     let known = fragment.declared.or(transfer.declared);
     judge_end(room, fragment, parts.binary, count, known)
 }

@@ -18,45 +18,42 @@ pub struct Transfer {
     pub complete: bool,
 }
 
-pub(crate) fn fresh(location: &[u8]) -> Transfer
-    ensures { result ≡ fresh_transfer location.now }
-{
-    Transfer {
-        location: FixedBytes::of(location),
-        next: 0,
-        declared: None,
-        complete: false,
+impl Transfer {
+    pub(crate) fn fresh(location: &[u8]) -> Transfer
+        ensures { result ≡ fresh_transfer location.now }
+    {
+        Transfer {
+            location: FixedBytes::of(location),
+            next: 0,
+            declared: None,
+            complete: false,
+        }
     }
-}
 
-// The transfer after an accepted fragment.
-pub(crate) fn advanced(
-    transfer: Transfer,
-    next: usize,
-    declared: Option<usize>,
-    last: bool,
-) -> Transfer
-    ensures { result ≡ advanced transfer next declared last }
-{
-    Transfer {
-        next,
-        declared,
-        complete: last,
-        ..transfer
+    // The transfer after an accepted fragment.
+    pub(crate) fn advanced(self, next: usize, declared: Option<usize>, last: bool) -> Transfer
+        ensures { result ≡ advanced self next declared last }
+    {
+        Transfer {
+            next,
+            declared,
+            complete: last,
+            ..self
+        }
     }
-}
 
-// Whether the transfer is of the file at `location`.
-pub(crate) fn is_of(transfer: Transfer, location: &[u8]) -> bool
-    ensures { result ≡ same_bytes location.now (location_of transfer) }
-{
-    slices::same(location, transfer.location.as_slice())
-}
+    // Whether the transfer is of the file at `location`.
+    pub(crate) fn is_of(&self, location: &[u8]) -> bool
+        ensures { result ≡ same_bytes location.now (location_of self.now) }
+    {
+        slices::same(location, self.location.as_slice())
+    }
 
-// Whether the transfer goes on at `offset`: it is not complete, and that is its next offset.
-#[tactic(auto, unfolding(crate::specs::Transfer::goes_on))]
-pub(crate) fn goes_on(transfer: Transfer, offset: usize) -> bool
-    ensures { result ≡ goes_on transfer offset }
-{
-    !transfer.complete && offset == transfer.next
+    // Whether the transfer goes on at `offset`: it is not complete, and that is its next offset.
+    #[tactic(auto, unfolding(crate::specs::Transfer::goes_on))]
+    pub(crate) fn goes_on(&self, offset: usize) -> bool
+        ensures { result ≡ goes_on self.now offset }
+    {
+        !self.complete && offset == self.next
+    }
 }

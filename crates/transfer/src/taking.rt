@@ -3,7 +3,7 @@ ghost use Rattle.std.specs.Prelude.{◌≡◌};
 ghost use Rattle.transfer.specs.Transfer.{refused_with, start_of, Takes};
 
 use crate::judging::judge;
-use crate::state::{Transfer, advanced, fresh};
+use crate::state::Transfer;
 use refusals::BAD_FRAGMENT;
 
 #[derive(Clone, Copy)]
@@ -26,10 +26,10 @@ pub fn start(location: &[u8]) -> Outcome
     ensures { result ≡ start_of location.now }
 {
     if !packet::valid_location(location) {
-        return refused(fresh(b""), BAD_FRAGMENT);
+        return refused(Transfer::fresh(b""), BAD_FRAGMENT);
     }
     Outcome {
-        transfer: fresh(location),
+        transfer: Transfer::fresh(location),
         answer: Answer::Accepted,
     }
 }
@@ -45,7 +45,7 @@ pub fn take(transfer: Transfer, packet: &[u8], file: &mut [u8]) -> Outcome
             let bytes = packet::value_at(packet, fragment.binary);
             slices::put(file, fragment.offset, bytes);
             Outcome {
-                transfer: advanced(transfer, fragment.next, fragment.declared, fragment.last),
+                transfer: transfer.advanced(fragment.next, fragment.declared, fragment.last),
                 answer: Answer::Accepted,
             }
         }
@@ -56,6 +56,8 @@ pub fn take(transfer: Transfer, packet: &[u8], file: &mut [u8]) -> Outcome
 fn refused(transfer: Transfer, number: u8) -> Outcome
     ensures { result ≡ refused_with transfer number }
 {
-    let answer = Answer::Refused(number);
-    Outcome { transfer, answer }
+    Outcome {
+        transfer,
+        answer: Answer::Refused(number),
+    }
 }

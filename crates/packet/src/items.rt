@@ -36,6 +36,7 @@ pub(crate) fn read_items(s: &[u8], wanted: u8) -> Option<Survey>
 {
     let mut survey = no_items();
     let mut at = HEAD_LENGTH;
+    // A while, not an iterator: each item says by its length where the next one begins.
     while at < s.len() {
         let item = item_at(s, at)?;
         survey = with_item(survey, item, item.kind == wanted);

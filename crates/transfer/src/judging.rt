@@ -11,7 +11,7 @@ use crate::state::Transfer;
 use packet::{Item, LOCATION_KIND, Reading};
 use refusals::{BAD_FRAGMENT, EARLY_END, OTHER_LOCATION, OTHER_OPCODE, PAST_LENGTH, WRONG_OFFSET};
 
-// The opcode of a fragment packet.
+// The opcode of a fragment packet. A number, not an enum: a packet may have any opcode.
 const FRAGMENT: u8 = 0x0b;
 
 // What a fragment that is accepted does: the place of its Binary, the offset of its bytes and what the

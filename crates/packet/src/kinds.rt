@@ -1,6 +1,6 @@
 // The types of items, as 01 numbers them. An item's type byte is called its kind, since `type` is a
-// keyword. Numbers, not an enum: an item may have any type byte, and `look_for` and those beside it take
-// any.
+// keyword.
+// Numbers, not an enum: an item may have any type byte, and `look_for` takes any.
 pub const NAME_KIND: u8 = 0x01;
 
 pub const INTEGER_KIND: u8 = 0x02;

@@ -10,7 +10,8 @@ use crate::{DATA, HEAD_LENGTH, LOCATION_KIND, NAME_KIND, OFFSET_KIND};
 use refusals::{BAD_FRAGMENT, BAD_NAME, SHORT_OUTPUT};
 use slices::Written;
 
-// The opcodes of the four requests. Numbers, not an enum: each is only written, as the byte that it is.
+// The opcodes of the four requests.
+// Numbers, not an enum: each is only written, as the byte that it is.
 const GET_OPCODE: u8 = 0x02;
 
 const FILE_OPCODE: u8 = 0x0a;

@@ -14,8 +14,8 @@ use refusals::{BAD_FRAGMENT, EARLY_END, OTHER_LOCATION, OTHER_OPCODE, PAST_LENGT
 // The opcode of a fragment packet. A number, not an enum: a packet may have any opcode.
 const FRAGMENT: u8 = 0x0b;
 
-// What a fragment that is accepted does: the place of its Binary, the offset of its bytes and what the
-// transfer is then.
+// What a fragment that is accepted does: the place of its Binary, the offset of its bytes and what
+// the transfer is then.
 #[derive(Clone, Copy)]
 pub(crate) struct Accepted {
     pub(crate) binary: Option<Item>,
@@ -41,8 +41,8 @@ pub(crate) fn judge(transfer: Transfer, packet: &[u8], room: usize) -> Result<Ac
     }
 }
 
-// Tests the form of the candidate, then the fragment against the transfer: location, offset, then where
-// it ends.
+// Tests the form of the candidate, then the fragment against the transfer: location, offset, then
+// where it ends.
 #[tactic(auto, using(crate::proofs::PartLaws::of_parts, crate::proofs::StepLaws::form_told), unfolding(crate::specs::Transfer::judge_form))]
 fn judge_form(transfer: Transfer, candidate: Candidate<'_>, room: usize) -> Result<Accepted, u8>
     ensures { result ≡ as_verdict (parts_of candidate.entry.packet.now).binary (judge_form transfer room (packet_items candidate.entry.packet.now) (form_of (packet_items candidate.entry.packet.now))) }
@@ -60,8 +60,8 @@ fn judge_form(transfer: Transfer, candidate: Candidate<'_>, room: usize) -> Resu
     judge_end(room, fragment, parts.binary, count, known)
 }
 
-// Tests where a fragment ends whose Binary has `count` bytes. `declared` is the length that is known
-// with it.
+// Tests where a fragment ends whose Binary has `count` bytes. `declared` is the length that is
+// known with it.
 #[tactic(auto, unfolding(crate::specs::Transfer::judge_end, crate::specs::Transfer::is_long))]
 fn judge_end(
     room: usize,

@@ -1,7 +1,7 @@
 -- A frame at its closing flag, one law for each way through the code: what the tests on the way say of it settles the outcome.
 -- Nine bytes are room for its acknowledgement, of which at most three are escaped.
-use Rattle.std.proofs.Common.{◌≡◌, ℕ, Option, Some, ◌+◌, ◌-◌, ◌/◌, ◌%◌, ◌≤◌, Bool, true, false, eqb, List, [], ◌∷◌, length, take, drop, sym, refl, ap, ◌∙◌, arith, eq-eqb, ne_eqb}
-use Rattle.refusals.specs.Numbers.{unknown_type}
+use Rattle.std.proofs.Common.{◌≡◌, ℕ, Option, Some, ◌+◌, ◌-◌, ◌/◌, ◌%◌, ◌≤◌, Bool, true, false, cond, eqb, List, [], ◌∷◌, length, take, drop, sym, refl, ap, ◌∙◌, arith, eq-eqb, ne_eqb}
+use Rattle.refusals.specs.Numbers.{unknown_type, loaded_acknowledgement}
 use Rattle.slices.proofs.Impossible.{impossible}
 use Rattle.slices.specs.Each.{each}
 use Rattle.slices.specs.Put.{put_at}
@@ -9,7 +9,7 @@ use Rattle.slices.specs.Written.{written, WritesAs}
 use Rattle.slices.specs.declared.Written as declared
 use Rattle.crc.specs.Crc.{link_start, crc_of}
 use Rattle.frame.specs.Stuffing.{stuff}
-use Rattle.frame.specs.Content.{data_type, acknowledgement_type, Read, no_place, content_of, judged}
+use Rattle.frame.specs.Content.{data_type, acknowledgement_type, Read, frame, refused, no_place, content_of, judged}
 use Rattle.frame.specs.Answers.{read_answer}
 use Rattle.frame.specs.declared.content.FrameRead.TheVariants as answer
 use Rattle.frame.specs.Writing.{write_frame}
@@ -20,8 +20,10 @@ use Rattle.link.specs.declared.counts.Counts.{Counts}
 use Rattle.link.specs.declared.counts.Event.TheVariants as event
 use Rattle.link.specs.declared.receiver.Answer.TheVariants as says
 use Rattle.link.specs.declared.closing.Closed.{Closed}
+use Rattle.link.specs.declared.reader.Ended.{Ended}
+use Rattle.link.specs.declared.reader.Ended.TheVariants as ends
 use Rattle.link.specs.Counts.{count_of}
-use Rattle.link.specs.Closing.{reply_room, acknowledgement, repeats, Outcome, refused_frame, acknowledgement_frame, data_frame, read_outcome, frame_outcome}
+use Rattle.link.specs.Closing.{reply_room, acknowledgement, repeats, Outcome, refused_frame, acknowledgement_frame, again_frame, new_frame, data_frame, read_outcome, frame_outcome, close_of}
 use Rattle.link.specs.Steps.{closed_by, ClosesAs, AcknowledgesAs}
 
 -- of an acknowledgement's four bytes of content the type is not escaped
@@ -128,3 +130,35 @@ module _ (c : List ℕ) (previous : Option ℕ) (before : Counts) (reply packet 
         let found = answer_frame c kind q n e in
         refuses _ unknown_type no_place previous before result reply packet
         (rw (found.found, ne_eqb kind data_type other, ne_eqb kind acknowledgement_type neither)) told
+
+-- nine bytes are room enough for the reply to any frame
+data_reply : (q : ℕ) (payload : List ℕ) (previous : Option ℕ) (before : Counts) → length (data_frame q payload previous before).reply ≤ reply_room
+unfolding data_frame
+data_reply q payload previous before = cases (repeats previous q)
+  where
+    cases : (t : Bool) → length (cond t (again_frame q previous before) (new_frame q payload before)).reply ≤ reply_room
+    cases true = acknowledgement_fits q
+    cases false = acknowledgement_fits q
+
+read_reply : (found : Read) (previous : Option ℕ) (before : Counts) → length (read_outcome found previous before).reply ≤ reply_room
+read_reply (refused n place) previous before = omega arith
+read_reply (frame kind q payload) previous before = cases (eqb kind data_type) (eqb kind acknowledgement_type) (eqb (length payload) 0)
+  where
+    cases : (t u v : Bool)
+        → length
+        (cond t (data_frame q payload previous before)
+        (cond u
+        (cond v (record { last = previous; counts = count_of event.Heard before; answer = says.Heard q; reply = []; packet = [] })
+        (refused_frame loaded_acknowledgement no_place previous before))
+        (refused_frame unknown_type no_place previous before))).reply
+        ≤ reply_room
+    cases true u v = data_reply q payload previous before
+    cases false true true = omega arith
+    cases false true false = omega arith
+    cases false false v = omega arith
+
+pub close_reply : (end : Ended) (array : List ℕ) (previous : Option ℕ) (before : Counts) → length (close_of end array previous before).reply ≤ reply_room
+unfolding frame_outcome
+close_reply ends.Nothing array previous before = omega arith
+close_reply (ends.Content n) array previous before = read_reply (judged (take n array)) previous before
+close_reply (ends.Refused n place) array previous before = omega arith

@@ -1,13 +1,13 @@
 // A frame at its closing flag: it is refused, heard, or answered and handed out.
-ghost use Rattle.std.specs.Prelude.{◌≡◌, ◌≤◌, length};
-ghost use Rattle.link.specs.Closing.{reply_room, refused_frame, acknowledgement_frame, frame_outcome, close_of};
+ghost use Rattle.std.specs.Prelude.{◌≡◌};
+ghost use Rattle.link.specs.Closing.{refused_frame, acknowledgement_frame, frame_outcome, close_of};
 ghost use Rattle.link.specs.Counts.{count_of};
 ghost use Rattle.link.specs.Steps.{closed_by, ClosesAs};
 
 use crate::counts::{Counts, Event, count};
 use crate::data::take_data;
 use crate::reader::Ended;
-use crate::receiver::Answer;
+use crate::receiver::{Answer, REPLY_ROOM};
 use frame::content::{FrameRead, judge};
 use frame::{ACKNOWLEDGEMENT, DATA, HEADER_SIZE, NO_PLACE};
 use refusals::{LOADED_ACKNOWLEDGEMENT, UNKNOWN_TYPE};
@@ -32,10 +32,9 @@ pub(crate) fn close(
     ended: Ended,
     content: &[u8],
     state: State,
-    reply: &mut [u8],
+    reply: &mut [u8; REPLY_ROOM],
     packet: &mut [u8],
 ) -> Closed
-    requires { reply_room ≤ length reply.old }
     ensures { ClosesAs (close_of ended content.now state.last state.counts) reply.old packet.old result reply.new packet.new }
 {
     match ended {
@@ -62,8 +61,12 @@ fn refuse(number: u8, place: usize, state: State) -> Closed
 }
 
 // Judges whole content: refusals 3 and 4, then 5 and 6 by its type.
-fn take_frame(content: &[u8], state: State, reply: &mut [u8], packet: &mut [u8]) -> Closed
-    requires { reply_room ≤ length reply.old }
+fn take_frame(
+    content: &[u8],
+    state: State,
+    reply: &mut [u8; REPLY_ROOM],
+    packet: &mut [u8],
+) -> Closed
     ensures { ClosesAs (frame_outcome content.now state.last state.counts) reply.old packet.old result reply.new packet.new }
 {
     match judge(content) {

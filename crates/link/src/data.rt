@@ -1,11 +1,11 @@
 // A data frame at its closing flag: it is answered, and handed out unless it came again.
-ghost use Rattle.std.specs.Prelude.{◌≡◌, ◌≤◌, length};
-ghost use Rattle.link.specs.Closing.{reply_room, repeats, data_frame};
+ghost use Rattle.std.specs.Prelude.{◌≡◌};
+ghost use Rattle.link.specs.Closing.{repeats, data_frame};
 ghost use Rattle.link.specs.Steps.{ClosesAs, AcknowledgesAs};
 
 use crate::closing::{Closed, State, counted};
 use crate::counts::Event;
-use crate::receiver::Answer;
+use crate::receiver::{Answer, REPLY_ROOM};
 use frame::ACKNOWLEDGEMENT;
 use frame::writer::{Written, write_frame};
 
@@ -14,10 +14,9 @@ pub(crate) fn take_data(
     sequence: u8,
     payload: &[u8],
     state: State,
-    reply: &mut [u8],
+    reply: &mut [u8; REPLY_ROOM],
     packet: &mut [u8],
 ) -> Closed
-    requires { reply_room ≤ length reply.old }
     ensures { ClosesAs (data_frame sequence payload.now state.last state.counts) reply.old packet.old result reply.new packet.new }
 {
     let length = acknowledge(sequence, reply);
@@ -48,8 +47,7 @@ fn repeated(last: Option<u8>, sequence: u8) -> bool
 }
 
 // Puts the acknowledgement of a sequence at the start of `reply`, and answers its length.
-fn acknowledge(sequence: u8, reply: &mut [u8]) -> usize
-    requires { reply_room ≤ length reply.old }
+fn acknowledge(sequence: u8, reply: &mut [u8; REPLY_ROOM]) -> usize
     ensures { AcknowledgesAs sequence reply.old result reply.new }
 {
     match write_frame(ACKNOWLEDGEMENT, sequence, b"", reply) {

@@ -74,9 +74,12 @@ pub fn count_unread(link: Link) -> Link
 pub fn receive(link: Link, piece: &[u8], reply: &mut [u8], packet: &mut [u8]) -> Received
     ensures { ReceivesAs (receive_of link piece.now (length reply.old) (length packet.old)) reply.old packet.old result reply.new packet.new }
 {
-    if reply.len() < REPLY_ROOM || packet.len() < PAYLOAD_MAX {
+    if packet.len() < PAYLOAD_MAX {
         return short_output(link);
     }
+    let Some(reply) = reply.first_chunk_mut::<REPLY_ROOM>() else {
+        return short_output(link);
+    };
     let mut content = link.content;
     let walked = walk(piece, &mut content, link.reader);
     let before = State {

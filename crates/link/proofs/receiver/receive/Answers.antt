@@ -1,16 +1,19 @@
 -- `link::receiver::receive` meets its contract: a short buffer has its law; otherwise the walk and the frame that it ended
 -- make the call.
-use Rattle.std.proofs.Common.{length}
-use Rattle.link.specs.Walk.{walk_of}
-use Rattle.link.proofs.ReceivingLaws.{room_for_both, refuses_short, received}
+use mathlib.Core.Logic.{inl, inr}
+use Rattle.link.proofs.ReceivingLaws.{refuses_short, received}
 use Rattle.link.proofs.receiver.receive.Goals as goal
 
-pub returns-then-reply-lt-REPLY_ROOM : goal.returns-then-reply-lt-REPLY_ROOM
-returns-then-reply-lt-REPLY_ROOM c =
-    refuses_short c.args.link c.args.piece.now c.args.reply.now c.args.packet.now _ c.then-reply-lt-REPLY_ROOM.either c.short_output.ensures
+pub returns-then-packet-lt-PAYLOAD_MAX : goal.returns-then-packet-lt-PAYLOAD_MAX
+returns-then-packet-lt-PAYLOAD_MAX c =
+    refuses_short c.args.link c.args.piece.now c.args.reply.now c.args.packet.now _ (inr c.if-packet-lt-PAYLOAD_MAX.true) c.short_output.ensures
+
+pub returns-in_default : goal.returns-in_default
+returns-in_default c =
+    refuses_short c.args.link c.args.piece.now c.args.reply.now c.args.packet.now _ (inl c.in_default.ensures.cases) c.short_output-in_default.ensures
 
 pub returns : goal.returns
 returns c =
-    rw (room_for_both c.args.link c.args.piece.now (length c.args.reply.now) (length c.args.packet.now) c.if-reply-lt-REPLY_ROOM.false c.if-packet-lt-PAYLOAD_MAX.false)
-    (received c.args.link (walk_of c.args.piece.now c.args.link.content c.args.link.reader 0) _ _ _ c.args.reply.now c.args.packet.now _ _
-    c.walk-walked.ensures c.close-closed.ensures)
+    let front = c.in-Some.ensures.cases in
+    received c.args.link c.args.piece.now c.args.reply.now c.args.packet.now c.in-Some.reply.now _ _ _ _ _ front.enough c.if-packet-lt-PAYLOAD_MAX.false front.same
+    c.walk-walked.ensures c.close-closed.ensures

@@ -7,10 +7,11 @@ use Prim.Native.Nat.{ℕ, ◌≤◌, ◌<◌}
 use lib.Dec.{ltb}
 use lib.ListN.{length}
 use borrow.Author.Tests.{lt-ltb, le-ltb, ltb-false}
+use Rattle.std.specs.Prelude.{Ok, Err}
 use Rattle.refusals.specs.Numbers.{short_output}
+use Rattle.refusals.specs.declared.Refusal.{Refusal}
 use Rattle.slices.specs.Put.{put_at}
 use Rattle.slices.specs.Written.{Output, written, refused, fitted, WritesAs}
-use Rattle.slices.specs.declared.Written.TheVariants as answer
 use Rattle.slices.proofs.Impossible.{impossible}
 
 module _ (room : ℕ) (bytes : List ℕ) (n : ℕ) (size : length bytes ≡ n) where
@@ -28,13 +29,13 @@ pub record Wrote (most size room : ℕ) (bytes sent : List ℕ) : Type 0 where
   pub fits : length sent ≤ room
   pub is : sent ≡ bytes
 
-pub wrote : (most size room number : ℕ) (bytes sent : List ℕ) → cond (ltb most size) (refused number) (fitted room bytes) ≡ written sent
+pub wrote : (most size room : ℕ) (refusal : Refusal) (bytes sent : List ℕ) → cond (ltb most size) (refused refusal) (fitted room bytes) ≡ written sent
     → Wrote most size room bytes sent
 unfolding fitted
-wrote most size room number bytes sent e = cases (ltb most size) (ltb room (length bytes)) refl refl e
+wrote most size room refusal bytes sent e = cases (ltb most size) (ltb room (length bytes)) refl refl e
   where
     cases : (t u : Bool) → ltb most size ≡ t → ltb room (length bytes) ≡ u
-        → cond t (refused number) (cond u (refused short_output) (written bytes)) ≡ written sent → Wrote most size room bytes sent
+        → cond t (refused refusal) (cond u (refused short_output) (written bytes)) ≡ written sent → Wrote most size room bytes sent
     cases true u f g e = impossible cc
     cases false true f g e = impossible cc
     cases false false f g e =
@@ -42,12 +43,12 @@ wrote most size room number bytes sent e = cases (ltb most size) (ltb room (leng
         record { short = ltb-false most size f; fits = rw same (ltb-false room (length bytes) g); is = same }
 
 -- what a writer does of a refusal, and of bytes
-pub refuses : (output : Output) (n : ℕ) (before : List ℕ) → output ≡ refused n → WritesAs output before (answer.Refused n) before
-refuses output n before e = rw e (record { answers = refl; put = refl })
+pub refuses : (output : Output) (r : Refusal) (before : List ℕ) → output ≡ refused r → WritesAs output before (Err r) before
+refuses output r before e = rw e (record { answers = refl; put = refl })
 
 pub writes : (output : Output) (bytes before after : List ℕ) (n : ℕ) → output ≡ written bytes → n ≡ length bytes → after ≡ put_at before 0 bytes
-    → WritesAs output before (answer.Length n) after
-writes output bytes before after n e size put = rw e (record { answers = ap answer.Length size; put = put })
+    → WritesAs output before (Ok n) after
+writes output bytes before after n e size put = rw e (record { answers = ap Ok size; put = put })
 
 -- what an answered length tells
 pub record Told (output : Output) (before : List ℕ) (n : ℕ) (after : List ℕ) : Type 0 where
@@ -56,14 +57,14 @@ pub record Told (output : Output) (before : List ℕ) (n : ℕ) (after : List �
   pub size : n ≡ length bytes
   pub put : after ≡ put_at before 0 bytes
 
-pub told : (output : Output) (before : List ℕ) (n : ℕ) (after : List ℕ) → WritesAs output before (answer.Length n) after
+pub told : (output : Output) (before : List ℕ) (n : ℕ) (after : List ℕ) → WritesAs output before (Ok n) after
     → Told output before n after
 told (written bytes) before n after did =
     let a = did.answers in
     record { bytes = bytes; is = refl; size = let same : n ≡ length bytes = cc in same; put = did.put }
-told (refused m) before n after did = let a = did.answers in impossible cc
+told (refused r) before n after did = let a = did.answers in impossible cc
 
 -- and a refusal
-pub refusal_keeps : (output : Output) (before : List ℕ) (m : ℕ) (after : List ℕ) → WritesAs output before (answer.Refused m) after → after ≡ before
-refusal_keeps (written bytes) before m after did = let a = did.answers in impossible cc
-refusal_keeps (refused k) before m after did = did.put
+pub refusal_keeps : (output : Output) (before : List ℕ) (r : Refusal) (after : List ℕ) → WritesAs output before (Err r) after → after ≡ before
+refusal_keeps (written bytes) before r after did = let a = did.answers in impossible cc
+refusal_keeps (refused k) before r after did = did.put

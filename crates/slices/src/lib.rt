@@ -1,6 +1,5 @@
 #![tactic(auto)]
-// Bytes put into a lent buffer, byte slices compared, two bytes read as a number, and what a writer
-// answers.
+// Bytes put into a lent buffer, byte slices compared, and two bytes read as a number.
 ghost use Rattle.std.specs.Prelude.{◌≡◌, take};
 ghost use Rattle.slices.specs.HighFirst.{pair_of};
 ghost use Rattle.slices.specs.Put.{put_at};
@@ -9,14 +8,6 @@ ghost use Rattle.slices.specs.Same.{same_bytes};
 mod fixed_bytes;
 
 pub use fixed_bytes::FixedBytes;
-
-// What a writer answers: how many bytes it put at the start of the output, or the number of the
-// refusal.
-#[derive(Clone, Copy)]
-pub enum Written {
-    Length(usize),
-    Refused(u8),
-}
 
 // Puts `src` into `dst` from the place `at` on. All else in `dst` stays, and what would fall
 // past its end is dropped.

@@ -8,6 +8,7 @@ use lib.Dec.{ltb}
 use lib.ListN.{length}
 use borrow.Author.Tests.{ltb-true}
 use Rattle.refusals.specs.Numbers.{long_content}
+use Rattle.refusals.specs.declared.Refusal.{Refusal}
 use Rattle.slices.proofs.Impossible.{impossible}
 use Rattle.frame.specs.Stuffing.{State, plain, escaped, Meaning, escapes_next, stands_for, faulty, meaning, Unstuffed, content, refused, joined, taken, content_max, unstuff_from}
 
@@ -22,7 +23,7 @@ joined_content v (content d) c e = record { rest = d; is = refl; whole = let sam
 joined_content v (refused n place) c e = impossible cc
 
 -- and a refusal with a byte in front is that refusal
-pub joined_refused : (v : ℕ) (found : Unstuffed) (n place : ℕ) → joined v found ≡ refused n place → found ≡ refused n place
+pub joined_refused : (v : ℕ) (found : Unstuffed) (n : Refusal) (place : ℕ) → joined v found ≡ refused n place → found ≡ refused n place
 joined_refused v (content c) n place e = impossible cc
 joined_refused v (refused m at) n place e = e
 

@@ -9,6 +9,7 @@ use lib.Dec.{eqb, ltb}
 use lib.ListN.{length, length-append}
 use borrow.Author.Tests.{eqb-true, eqb-false, ltb-true, ltb-false, lt-ltb}
 use Rattle.refusals.specs.Numbers.{bad_framing, long_content}
+use Rattle.refusals.specs.declared.Refusal.{Refusal}
 use Rattle.slices.proofs.Impossible.{impossible}
 use Rattle.frame.specs.Stuffing.{escape_byte, escaped_flag, escaped_escape, content_max, State, plain, escaped, Meaning, escapes_next, stands_for, faulty, meaning, content, refused, joined, taken, unstuff_from, unstuff}
 use Rattle.frame.specs.Places.{after_escape, BadEscape, OneByte, PassesLimit}
@@ -18,7 +19,7 @@ use Rattle.frame.proofs.SentLaws.{no_escape}
 use Rattle.frame.proofs.UnstuffLaws.{plain_escape, escaped_fault}
 
 -- what a run is broken by, and where
-abbrev pub Broken : List ℕ → ℕ → ℕ → Type 0
+abbrev pub Broken : List ℕ → Refusal → ℕ → Type 0
 Broken run n place = ((n ≡ bad_framing) × BadEscape run place) ⊎ ((n ≡ long_content) × PassesLimit run place)
 
 -- what a byte is, by what it means
@@ -59,12 +60,12 @@ abbrev passed : State → List ℕ → ℕ
 passed plain past = length past
 passed escaped past = suc (length past)
 
-abbrev Breaks : State → List ℕ → List ℕ → List ℕ → ℕ → ℕ → Type 0
+abbrev Breaks : State → List ℕ → List ℕ → List ℕ → Refusal → ℕ → Type 0
 Breaks s past c bytes n place =
     unstuff past ≡ content c → unstuff_from s (length c) (passed s past) bytes ≡ refused n place → Broken (past ++ left s bytes) n place
 
 -- a fault behind an escape byte
-escape_breaks : (past c behind : List ℕ) (n place : ℕ) → unstuff past ≡ content c → (after_escape behind ≡ escaped_flag → ⊥) → (after_escape behind ≡ escaped_escape → ⊥)
+escape_breaks : (past c behind : List ℕ) (n : Refusal) (place : ℕ) → unstuff past ≡ content c → (after_escape behind ≡ escaped_flag → ⊥) → (after_escape behind ≡ escaped_escape → ⊥)
     → refused bad_framing (suc (suc (length past))) ≡ refused n place → Broken (past ++ (escape_byte ∷ behind)) n place
 escape_breaks past c behind n place e no_flag no_escape f =
     let number : bad_framing ≡ n = cc in
@@ -83,7 +84,7 @@ escape_breaks past c behind n place e no_flag no_escape f =
       },
     )
 
-module _ (past c bytes : List ℕ) (n place : ℕ) (e : unstuff past ≡ content c) (rest : (s : State) (past₁ c₁ : List ℕ) → Breaks s past₁ c₁ bytes n place) where
+module _ (past c bytes : List ℕ) (n : Refusal) (place : ℕ) (e : unstuff past ≡ content c) (rest : (s : State) (past₁ c₁ : List ℕ) → Breaks s past₁ c₁ bytes n place) where
   -- one byte of content, and its sent bytes
   byte_breaks : (sent : List ℕ) (v at : ℕ) → at ≡ length past + length sent → OneByte sent
       → (length c < content_max → unstuff_from plain (length c) (length past) sent ≡ content (v ∷ []))
@@ -137,7 +138,7 @@ module _ (past c bytes : List ℕ) (n place : ℕ) (e : unstuff past ≡ content
       (λ room. rw (is, lt-ltb (length c) content_max room)) f
   escaped_breaks y faulty is f = let other = escaped_faults y is in escape_breaks past c (y ∷ bytes) n place e other.0 other.1 f
 
-broke_from : (s : State) (past c bytes : List ℕ) (n place : ℕ) → Breaks s past c bytes n place
+broke_from : (s : State) (past c bytes : List ℕ) (n : Refusal) (place : ℕ) → Breaks s past c bytes n place
 unfolding unstuff_from
 broke_from plain past c [] n place e f = impossible cc
 broke_from escaped past c [] n place e f = escape_breaks past c [] n place e (λ g. omega arith) (λ g. omega arith) f
@@ -146,6 +147,6 @@ broke_from plain past c (b ∷ bytes) n place e f =
 broke_from escaped past c (y ∷ bytes) n place e f =
     escaped_breaks past c bytes n place e (λ s past₁ c₁. broke_from s past₁ c₁ bytes n place) y (meaning escaped y) refl f
 
-pub broke : (run : List ℕ) (n place : ℕ) → unstuff run ≡ refused n place → Broken run n place
+pub broke : (run : List ℕ) (n : Refusal) (place : ℕ) → unstuff run ≡ refused n place → Broken run n place
 unfolding unstuff unstuff_from
 broke run n place e = broke_from plain [] [] run n place refl e

@@ -10,6 +10,7 @@ use lib.Dec.{eqb, ltb}
 use lib.ListN.{length, get_or, length-append}
 use borrow.Author.Tests.{eqb-true}
 use Rattle.refusals.specs.Numbers.{bad_framing, short_output, short_content, bad_check}
+use Rattle.std.specs.Prelude.{Ok}
 use Rattle.slices.specs.Bits.{bits_of}
 use Rattle.slices.proofs.DifferenceLaws.{differ_some}
 use Rattle.crc.specs.Burst.{burst_bits}
@@ -21,9 +22,8 @@ use Rattle.frame.specs.Stuffing.{plain, stuff, unstuff_from, unstuff}
 use Rattle.frame.specs.Content.{payload_max, Read, frame, refused, no_place, payload_of, judged}
 use Rattle.frame.specs.Reading.{judged_content, flagged_bytes, between, read_run, read_frame}
 use Rattle.frame.specs.Writing.{between_flags}
-use Rattle.frame.specs.Answers.{read_answer}
+use Rattle.frame.specs.Answers.{read_answer, frame_found}
 use Rattle.frame.specs.Damage.{PairDamaged, BurstDamaged, Damaged, IsTaken}
-use Rattle.frame.specs.declared.content.FrameRead.TheVariants as read
 use Rattle.frame.proofs.ByteLaws.{unstuffed_bytes}
 use Rattle.frame.proofs.DamageLaws.{contents_differ}
 use Rattle.frame.proofs.FrameTheorems.{between_flags_law}
@@ -120,11 +120,11 @@ not_both_taken sent arrived damage room room₁ t t₁ =
     damaged_run sent arrived damage (taken_run room sent t) (taken_run room₁ arrived t₁)
 
 -- a call that tells of a frame took it
-told : (string before : List ℕ) (kind sequence n : ℕ) (after : List ℕ) → Reads string before (read.Frame kind sequence n) after
+told : (string before : List ℕ) (kind sequence n : ℕ) (after : List ℕ) → Reads string before (Ok (frame_found kind sequence n)) after
     → IsTaken (read_frame (length before) string)
 told string before kind sequence n after r = cases (read_frame (length before) string) (was_read r).answers
   where
-    cases : (found : Read) → read.Frame kind sequence n ≡ read_answer found → IsTaken found
+    cases : (found : Read) → Ok (frame_found kind sequence n) ≡ read_answer found → IsTaken found
     cases (frame k q p) e = tt
     cases (refused m place) e = impossible cc
 
@@ -132,7 +132,7 @@ told string before kind sequence n after r = cases (read_frame (length before) s
 -- both are taken by calls of `read_frame`; nor of two whose contents differ, and only within 16 adjacent bits.
 pub damaged_frame : (sent arrived : List ℕ) → Damaged sent arrived
     → (out after out₁ after₁ : List ℕ) (kind sequence n kind₁ sequence₁ n₁ : ℕ)
-    → Reads (between_flags sent) out (read.Frame kind sequence n) after → Reads (between_flags arrived) out₁ (read.Frame kind₁ sequence₁ n₁) after₁ → ⊥
+    → Reads (between_flags sent) out (Ok (frame_found kind sequence n)) after → Reads (between_flags arrived) out₁ (Ok (frame_found kind₁ sequence₁ n₁)) after₁ → ⊥
 damaged_frame sent arrived damage out after out₁ after₁ kind sequence n kind₁ sequence₁ n₁ r r₁ =
     not_both_taken sent arrived damage (length out) (length out₁)
     (told (between_flags sent) out kind sequence n after r) (told (between_flags arrived) out₁ kind₁ sequence₁ n₁ after₁ r₁)

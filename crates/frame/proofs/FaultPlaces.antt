@@ -7,6 +7,7 @@ use native.Mathlib.Omega.{arith}
 use lib.ListN.{length}
 use borrow.Author.Tests.{le-ltb}
 use Rattle.refusals.specs.Numbers.{bad_framing, long_content}
+use Rattle.slices.proofs.Impossible.{impossible}
 use Rattle.frame.specs.Stuffing.{escape_byte, escaped_flag, escaped_escape, content_max, plain, refused, unstuff_from, unstuff}
 use Rattle.frame.specs.Places.{BadEscape, OneByte, PassesLimit}
 use Rattle.frame.proofs.BrokenLaws.{broke}
@@ -33,7 +34,7 @@ module _ (run : List ℕ) (place : ℕ) where
   escape_exactly = (there, back)
     where
       there : unstuff run ≡ refused bad_framing place → BadEscape run place
-      there e = ⊎_elim (λ one. one.1) (λ two. absurd (let number = two.0 in omega arith)) (broke run bad_framing place e)
+      there e = ⊎_elim (λ one. one.1) (λ two. let number = two.0 in impossible cc) (broke run bad_framing place e)
 
       back : BadEscape run place → unstuff run ≡ refused bad_framing place
       back b =
@@ -46,7 +47,7 @@ module _ (run : List ℕ) (place : ℕ) where
   limit_exactly = (there, back)
     where
       there : unstuff run ≡ refused long_content place → PassesLimit run place
-      there e = ⊎_elim (λ one. absurd (let number = one.0 in omega arith)) (λ two. two.1) (broke run long_content place e)
+      there e = ⊎_elim (λ one. let number = one.0 in impossible cc) (λ two. two.1) (broke run long_content place e)
 
       back : PassesLimit run place → unstuff run ≡ refused long_content place
       back b =

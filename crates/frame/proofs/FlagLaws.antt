@@ -10,14 +10,15 @@ use lib.Dec.{eqb}
 use lib.ListN.{length, get_or, take, drop, length-take, length-drop}
 use Rattle.std.proofs.lemmas.List.{get_or-take, get_or-drop}
 use borrow.Author.Tests.{eqb-true, eqb-false, eq-eqb, ne_eqb}
+use Rattle.std.specs.Prelude.{Result, Err}
 use Rattle.slices.proofs.Impossible.{impossible}
 use Rattle.refusals.specs.Numbers.{bad_framing}
 use Rattle.frame.specs.Stuffing.{flag_byte}
 use Rattle.frame.specs.Content.{payload_max, no_place}
 use Rattle.frame.specs.Reading.{first_flag, flagged_bytes, read_frame}
-use Rattle.frame.specs.Answers.{ReadsAs}
-use Rattle.frame.specs.declared.content.FrameRead.{FrameRead}
-use Rattle.frame.specs.declared.content.FrameRead.TheVariants as read
+use Rattle.frame.specs.Answers.{ReadsAs, fault_at}
+use Rattle.frame.specs.declared.content.Frame.{Frame}
+use Rattle.frame.specs.declared.content.Fault.{Fault}
 use Rattle.frame.proofs.ReadLaws.{frame_unflagged, refuses}
 use Rattle.frame.proofs.FrameCalls.{Reads, was_read}
 
@@ -122,15 +123,15 @@ module _ (bytes : List ℕ) where
 
   -- bytes without such flags are refused, which leaves the output as it was
   pub unflagged_read : (out : List ℕ) → payload_max ≤ length out → (Flags bytes → ⊥)
-      → ReadsAs (read_frame (length out) bytes) out (read.Refused bad_framing no_place) out
+      → ReadsAs (read_frame (length out) bytes) out (Err (fault_at bad_framing no_place)) out
   unflagged_read out room wrong = cases (flagged_bytes bytes) refl
     where
-      cases : (t : Bool) → flagged_bytes bytes ≡ t → ReadsAs (read_frame (length out) bytes) out (read.Refused bad_framing no_place) out
+      cases : (t : Bool) → flagged_bytes bytes ≡ t → ReadsAs (read_frame (length out) bytes) out (Err (fault_at bad_framing no_place)) out
       cases true e = absurd (wrong (flagged_flags bytes e))
       cases false e = refuses _ bad_framing no_place out (frame_unflagged (length out) bytes room e)
 
 -- THEOREM. A call of `read_frame` with an output of at least 383 bytes refuses bytes without such flags with 1,
 -- and the place is 0.
-pub unflagged_refused : (bytes out : List ℕ) (answer : FrameRead) (after : List ℕ) → Reads bytes out answer after → payload_max ≤ length out
-    → (Flags bytes → ⊥) → answer ≡ read.Refused bad_framing no_place
+pub unflagged_refused : (bytes out : List ℕ) (answer : Result Frame Fault) (after : List ℕ) → Reads bytes out answer after → payload_max ≤ length out
+    → (Flags bytes → ⊥) → answer ≡ Err (fault_at bad_framing no_place)
 unflagged_refused bytes out answer after r asked wrong = (was_read r).answers ∙ sym (unflagged_read bytes out asked wrong).answers

@@ -9,14 +9,16 @@ use lib.Dec.{eqb, ltb}
 use lib.ListN.{length, length-append}
 use borrow.Author.Tests.{eq-eqb}
 use Rattle.refusals.specs.Numbers.{bad_framing, long_content, bad_check, short_output}
+use Rattle.std.specs.Prelude.{Result, Err}
+use Rattle.refusals.specs.declared.Refusal.{Refusal}
 use Rattle.frame.specs.Stuffing.{flag_byte}
 use Rattle.frame.specs.Content.{payload_max, no_place, refused}
 use Rattle.frame.specs.Writing.{between_flags}
 use Rattle.frame.specs.Reading.{first_flag, flagged_bytes, between, read_run, read_frame}
 use Rattle.frame.specs.Places.{BadEscape, PassesLimit, FailsCheck, Places}
-use Rattle.frame.specs.Answers.{read_answer}
-use Rattle.frame.specs.declared.content.FrameRead.{FrameRead}
-use Rattle.frame.specs.declared.content.FrameRead.TheVariants as read
+use Rattle.frame.specs.Answers.{read_answer, fault_at}
+use Rattle.frame.specs.declared.content.Frame.{Frame}
+use Rattle.frame.specs.declared.content.Fault.{Fault}
 use Rattle.frame.proofs.ContentLaws.{answer_refused}
 use Rattle.frame.proofs.ReadLaws.{frame_run}
 use Rattle.frame.proofs.FrameTheorems.{between_flags_law}
@@ -44,27 +46,27 @@ flags_right run none =
 pub frame_is_run : (room : ℕ) (run : List ℕ) → payload_max ≤ room → first_flag run ≡ length run → read_frame room (between_flags run) ≡ read_run run
 frame_is_run room run asked none = frame_run room (between_flags run) asked (flags_right run none) ∙ ap read_run (between_flags_law run)
 
-module _ (run out : List ℕ) (answer : FrameRead) (after : List ℕ) (r : Reads (between_flags run) out answer after) (room : payload_max ≤ length out)
+module _ (run out : List ℕ) (answer : Result Frame Fault) (after : List ℕ) (r : Reads (between_flags run) out answer after) (room : payload_max ≤ length out)
     (no_flag : first_flag run ≡ length run) where
   answered : answer ≡ read_answer (read_run run)
   answered = (was_read r).answers ∙ ap read_answer (frame_is_run (length out) run room no_flag)
 
   -- THEOREM (02, C-16). Where a call of `read_frame` with room refuses a run between two flags, the place says where it broke.
-  pub told_places : (n place : ℕ) → answer ≡ read.Refused n place → Places run n place
+  pub told_places : (n : Refusal) (place : ℕ) → answer ≡ Err (fault_at n place) → Places run n place
   told_places n place e = run_places run n place (answer_refused (read_run run) n place (sym e ∙ answered))
 
   -- THEOREM (02, C-16). A run that broke at a place is refused with that place.
-  pub escape_told : (place : ℕ) → BadEscape run place → answer ≡ read.Refused bad_framing place
+  pub escape_told : (place : ℕ) → BadEscape run place → answer ≡ Err (fault_at bad_framing place)
   escape_told place b = answered ∙ ap read_answer (escape_read run place b)
 
-  pub limit_told : (place : ℕ) → PassesLimit run place → answer ≡ read.Refused long_content place
+  pub limit_told : (place : ℕ) → PassesLimit run place → answer ≡ Err (fault_at long_content place)
   limit_told place b = answered ∙ ap read_answer (limit_read run place b)
 
-  pub check_told : (place : ℕ) → FailsCheck run place → answer ≡ read.Refused bad_check place
+  pub check_told : (place : ℕ) → FailsCheck run place → answer ≡ Err (fault_at bad_check place)
   check_told place b = answered ∙ ap read_answer (check_read run place b)
 
 -- other refusals than 1, 2 and 4 have place 0, whatever the bytes
-pub other_place : (room : ℕ) (bytes : List ℕ) (n place : ℕ) → read_frame room bytes ≡ refused n place
+pub other_place : (room : ℕ) (bytes : List ℕ) (n : Refusal) (place : ℕ) → read_frame room bytes ≡ refused n place
     → (n ≡ bad_framing → ⊥) → (n ≡ long_content → ⊥) → (n ≡ bad_check → ⊥) → place ≡ no_place
 unfolding read_frame
 other_place room bytes n place e one two four = cases (ltb room payload_max) (flagged_bytes bytes) e
@@ -75,7 +77,7 @@ other_place room bytes n place e one two four = cases (ltb room payload_max) (fl
     cases false false e = let none : place ≡ no_place = cc in none
 
 -- THEOREM (02, C-16). Whatever the bytes and the output: other refusals of a call of `read_frame` give place 0.
-pub others_told : (bytes out after : List ℕ) (n place : ℕ) → Reads bytes out (read.Refused n place) after
+pub others_told : (bytes out after : List ℕ) (n : Refusal) (place : ℕ) → Reads bytes out (Err (fault_at n place)) after
     → (n ≡ bad_framing → ⊥) → (n ≡ long_content → ⊥) → (n ≡ bad_check → ⊥) → place ≡ no_place
 others_told bytes out after n place r =
     other_place (length out) bytes n place (answer_refused (read_frame (length out) bytes) n place (was_read r).answers)

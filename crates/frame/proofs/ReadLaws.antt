@@ -7,12 +7,13 @@ use native.Mathlib.Omega.{arith}
 use lib.ListN.{length, take, drop}
 use borrow.Author.Tests.{lt-ltb, le-ltb}
 use Rattle.refusals.specs.Numbers.{bad_framing, short_output}
+use Rattle.std.specs.Prelude.{Err}
+use Rattle.refusals.specs.declared.Refusal.{Refusal}
 use Rattle.frame.specs.Stuffing as stuffing
 use Rattle.frame.specs.Stuffing.{flag_byte, unstuff}
 use Rattle.frame.specs.Content.{payload_max, Read, refused, no_place, judged}
 use Rattle.frame.specs.Reading.{read_run, flagged_bytes, between, read_frame}
-use Rattle.frame.specs.Answers.{ReadsAs}
-use Rattle.frame.specs.declared.content.FrameRead.TheVariants as answer
+use Rattle.frame.specs.Answers.{ReadsAs, fault_at}
 
 -- the reader of one whole frame, one law for each test
 module _ (room : ℕ) (bytes : List ℕ) where
@@ -29,7 +30,7 @@ module _ (room : ℕ) (bytes : List ℕ) where
   frame_run h e = rw (le-ltb room payload_max h, e)
 
 -- and by what unstuffing gives
-pub run_refused : (run : List ℕ) (n place : ℕ) → unstuff run ≡ stuffing.refused n place → read_run run ≡ refused n place
+pub run_refused : (run : List ℕ) (n : Refusal) (place : ℕ) → unstuff run ≡ stuffing.refused n place → read_run run ≡ refused n place
 unfolding read_run
 run_refused run n place e = rw e
 
@@ -42,5 +43,5 @@ pub between_part : (bytes : List ℕ) → take (length bytes - 1 - 1) (drop 1 by
 between_part bytes = let same : length bytes - 1 - 1 ≡ length bytes - 2 = omega arith in rw same
 
 -- a refusal is answered and leaves the output as it was
-pub refuses : (found : Read) (n place : ℕ) (out : List ℕ) → found ≡ refused n place → ReadsAs found out (answer.Refused n place) out
+pub refuses : (found : Read) (n : Refusal) (place : ℕ) (out : List ℕ) → found ≡ refused n place → ReadsAs found out (Err (fault_at n place)) out
 refuses found n place out e = rw e (record { answers = refl; output = refl })

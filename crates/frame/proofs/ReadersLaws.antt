@@ -7,13 +7,16 @@ use native.Mathlib.Omega.{arith}
 use lib.ListN.{length, take, set, length-append}
 use borrow.Author.Tests.{lt-ltb, le-ltb}
 use Rattle.refusals.specs.Numbers.{long_content}
+use Rattle.std.specs.Prelude.{Ok, Err}
+use Rattle.refusals.specs.declared.Refusal.{Refusal}
 use Rattle.slices.specs.Put.{put_at}
 use Rattle.slices.proofs.Impossible.{impossible}
 use Rattle.slices.proofs.PutLaws.{length_put, put_first, put_append}
 use Rattle.frame.specs.Stuffing.{plain, Unstuffed, content, refused, joined, content_max, unstuff_from, unstuff}
 use Rattle.frame.specs.ReaderSteps.{byte_then, StandsFor, unstuff_answer, UnstuffsAs}
-use Rattle.frame.specs.declared.unstuffing.Unstuffed.TheVariants as answer
+use Rattle.frame.specs.Answers.{fault_at}
 use Rattle.frame.proofs.BoundLaws.{unstuff_bounded}
+use Rattle.frame.proofs.ContentLaws.{same_fault}
 use Rattle.frame.proofs.FollowLaws.{prefixed, prefixed_none}
 
 prefixed_more : (xs : List ℕ) (v : ℕ) (found : Unstuffed) → prefixed xs (joined v found) ≡ prefixed (xs ++ (v ∷ [])) found
@@ -43,8 +46,8 @@ module _ (run array₀ : List ℕ) where
 
   module _ (array sent : List ℕ) (held : ℕ) (h : Held run array₀ array sent held) where
     -- a refusal says nothing of the array
-    stopped : (n place : ℕ) → unstuff_from plain held (length run - length sent) sent ≡ refused n place
-        → UnstuffsAs (unstuff run) array₀ (answer.Refused n place) array
+    stopped : (n : Refusal) (place : ℕ) → unstuff_from plain held (length run - length sent) sent ≡ refused n place
+        → UnstuffsAs (unstuff run) array₀ (Err (fault_at n place)) array
     stopped n place e =
         let is : unstuff run ≡ refused n place = h.whole ∙ ap (prefixed h.bytes) e in
         record { answers = rw is; array_filled = λ c f. impossible cc }
@@ -68,29 +71,26 @@ module _ (run array₀ : List ℕ) where
             count = rw length-append (omega (arith, h.count));
           }
 
-      pub one_too_many : content_max ≤ held → UnstuffsAs (unstuff run) array₀ (answer.Refused long_content (length run - length rest)) array
+      pub one_too_many : content_max ≤ held → UnstuffsAs (unstuff run) array₀ (Err (fault_at long_content (length run - length rest))) array
       one_too_many full = stopped long_content (length run - length rest) (rw (le-ltb held content_max full) at gives)
 
   -- at the closing flag
-  pub all_held : (array sent : List ℕ) (held : ℕ) → Held run array₀ array sent held → length sent ≡ 0 → UnstuffsAs (unstuff run) array₀ (answer.Content held) array
+  pub all_held : (array sent : List ℕ) (held : ℕ) → Held run array₀ array sent held → length sent ≡ 0 → UnstuffsAs (unstuff run) array₀ (Ok held) array
   unfolding unstuff_from
   all_held array (b ∷ bs) held h e = absurd (omega arith)
   all_held array [] held h e =
       let is : unstuff run ≡ content h.bytes = h.whole ∙ ap content (append-nil h.bytes) in
       record {
-        answers = rw is (ap answer.Content h.count);
+        answers = rw is (ap Ok h.count);
         array_filled = λ c f.
             let same : h.bytes ≡ c = cc in
             rw (← same) h.stored;
       }
 
 -- what the enum says of the run: a refusal, or content, which then stands in the array
-pub unstuff_refused : (found : Unstuffed) (n place : ℕ) → answer.Refused n place ≡ unstuff_answer found → found ≡ refused n place
+pub unstuff_refused : (found : Unstuffed) (n : Refusal) (place : ℕ) → Err (fault_at n place) ≡ unstuff_answer found → found ≡ refused n place
 unstuff_refused (content c) n place e = impossible cc
-unstuff_refused (refused m at) n place e =
-    let number : m ≡ n = cc in
-    let there : at ≡ place = cc in
-    ap₂ refused number there
+unstuff_refused (refused m at) n place e = let same = same_fault n m place at e in ap₂ refused (sym same.0) (sym same.1)
 
 pub record Filled (run : List ℕ) (n : ℕ) (exit : List ℕ) : Type 0 where
   pub bytes : List ℕ
@@ -98,17 +98,17 @@ pub record Filled (run : List ℕ) (n : ℕ) (exit : List ℕ) : Type 0 where
   pub fits : n ≤ length exit
   pub first : take n exit ≡ bytes
 
-pub filled : (run : List ℕ) (n : ℕ) (array exit : List ℕ) → length array ≡ content_max → UnstuffsAs (unstuff run) array (answer.Content n) exit
+pub filled : (run : List ℕ) (n : ℕ) (array exit : List ℕ) → length array ≡ content_max → UnstuffsAs (unstuff run) array (Ok n) exit
     → Filled run n exit
 unfolding unstuff
 filled run n array exit full u = cases (unstuff_from plain 0 0 run) refl
   where
     cases : (found : Unstuffed) → unstuff_from plain 0 0 run ≡ found → Filled run n exit
     cases (refused m place) e =
-        let told : answer.Content n ≡ answer.Refused m place = u.answers ∙ ap unstuff_answer e in
+        let told : Ok n ≡ Err (fault_at m place) = u.answers ∙ ap unstuff_answer e in
         impossible cc
     cases (content c) e =
-        let told : answer.Content n ≡ answer.Content (length c) = u.answers ∙ ap unstuff_answer e in
+        let told : Ok n ≡ Ok (length c) = u.answers ∙ ap unstuff_answer e in
         let size : n ≡ length c = cc in
         let bound = unstuff_bounded plain 0 0 run c (omega arith) e in
         let room : length c ≤ length array = omega arith in

@@ -9,6 +9,7 @@ use lib.Dec.{eqb, ltb}
 use lib.ListN.{length, get_or}
 use borrow.Author.Tests.{eqb-false, ltb-false}
 use Rattle.refusals.specs.Numbers.{bad_framing, long_content, short_content, bad_check}
+use Rattle.refusals.specs.declared.Refusal.{Refusal}
 use Rattle.slices.proofs.Impossible.{impossible}
 use Rattle.crc.specs.Crc.{link_start, crc_of}
 use Rattle.frame.specs.Stuffing as stuffing
@@ -24,25 +25,25 @@ use Rattle.frame.proofs.BrokenLaws.{Broken, broke}
 use Rattle.frame.proofs.FaultPlaces.{escape_exactly, limit_exactly}
 
 -- a refusal of unstuffing, by its number
-broken_places : (run : List ℕ) (n place : ℕ) → Broken run n place → Places run n place
+broken_places : (run : List ℕ) (n : Refusal) (place : ℕ) → Broken run n place → Places run n place
 broken_places run n place broken =
     ⊎_elim
     (λ one. let number = one.0 in record {
       of_1 = λ e. one.1;
-      of_2 = λ e. absurd (omega arith);
-      of_4 = λ e. absurd (omega arith);
+      of_2 = λ e. impossible cc;
+      of_4 = λ e. impossible cc;
       of_others = λ other e f. absurd (other number);
     })
     (λ two. let number = two.0 in record {
-      of_1 = λ e. absurd (omega arith);
+      of_1 = λ e. impossible cc;
       of_2 = λ e. two.1;
-      of_4 = λ e. absurd (omega arith);
+      of_4 = λ e. impossible cc;
       of_others = λ e other f. absurd (other number);
     })
     broken
 
 -- a refusal of content
-judged_places : (run c : List ℕ) (n place : ℕ) → unstuff run ≡ content c → judged c ≡ refused n place → Places run n place
+judged_places : (run c : List ℕ) (n : Refusal) (place : ℕ) → unstuff run ≡ content c → judged c ≡ refused n place → Places run n place
 unfolding judged
 judged_places run c n place found e = cases (ltb (length c) content_min) (eqb (crc_of link_start c) 0) refl refl e
   where
@@ -53,9 +54,9 @@ judged_places run c n place found e = cases (ltb (length c) content_min) (eqb (c
         let number : short_content ≡ n = cc in
         let none : place ≡ no_place = cc in
         record {
-          of_1 = λ h. absurd (omega arith);
-          of_2 = λ h. absurd (omega arith);
-          of_4 = λ h. absurd (omega arith);
+          of_1 = λ h. impossible cc;
+          of_2 = λ h. impossible cc;
+          of_4 = λ h. impossible cc;
           of_others = λ h i j. none;
         }
     cases false true f g e = impossible cc
@@ -63,8 +64,8 @@ judged_places run c n place found e = cases (ltb (length c) content_min) (eqb (c
         let number : n ≡ bad_check = cc in
         let size : place ≡ length c = cc in
         record {
-          of_1 = λ h. absurd (omega arith);
-          of_2 = λ h. absurd (omega arith);
+          of_1 = λ h. impossible cc;
+          of_2 = λ h. impossible cc;
           of_4 = λ h. record {
             held = c;
             no_fault = found;
@@ -76,7 +77,7 @@ judged_places run c n place found e = cases (ltb (length c) content_min) (eqb (c
         }
 
 -- THEOREM (02, C-16). The place of a refused run says where it is broken.
-pub run_places : (run : List ℕ) (n place : ℕ) → read_run run ≡ refused n place → Places run n place
+pub run_places : (run : List ℕ) (n : Refusal) (place : ℕ) → read_run run ≡ refused n place → Places run n place
 unfolding read_run
 run_places run n place e = cases (unstuff run) refl e
   where
@@ -104,7 +105,7 @@ one_byte_size [] one = absurd one
 one_byte_size (x ∷ passing) one = omega arith
 
 -- THEOREM (02, C-16). Places are within limits: 2 to 776 for 1, 388 to 776 for 2, 4 to 387 for 4.
-pub places_limited : (run : List ℕ) (n place : ℕ) → Places run n place → WithinLimits n place
+pub places_limited : (run : List ℕ) (n : Refusal) (place : ℕ) → Places run n place → WithinLimits n place
 unfolding unstuff
 places_limited run n place p =
     record {

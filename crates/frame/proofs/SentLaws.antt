@@ -7,6 +7,7 @@ use native.Mathlib.Omega.{arith}
 use lib.Dec.{eqb, ltb}
 use borrow.Author.Tests.{ltb-true}
 use Rattle.refusals.specs.Numbers.{long_content}
+use Rattle.refusals.specs.declared.Refusal.{Refusal}
 use Rattle.slices.proofs.Impossible.{impossible}
 use Rattle.frame.proofs.BoundLaws.{joined_refused}
 use Rattle.frame.specs.Stuffing.{State, plain, escaped, Meaning, escapes_next, stands_for, faulty, meaning, Unstuffed, refused, joined, taken, content_max, sent_max, unstuff_from, unstuff}
@@ -24,7 +25,7 @@ abbrev Within : State → ℕ → ℕ → ℕ → Type 0
 Within plain held before place = place + 2 * held ≤ before + sent_max
 Within escaped held before place = place + 2 * held < before + sent_max
 
-module _ (held before : ℕ) (rest : State → ℕ → Unstuffed) (n place : ℕ) (h : held ≤ content_max) where
+module _ (held before : ℕ) (rest : State → ℕ → Unstuffed) (n : Refusal) (place : ℕ) (h : held ≤ content_max) where
   byte_within : (v : ℕ) → (held < content_max → rest plain (suc held) ≡ refused n place → Within plain (suc held) (suc before) place)
       → taken (stands_for v) held (suc before) rest ≡ refused n place → Within escaped held before place
   byte_within v known e = cases (ltb held content_max) refl e
@@ -40,7 +41,7 @@ module _ (held before : ℕ) (rest : State → ℕ → Unstuffed) (n place : ℕ
   fault_within e = let here : suc before ≡ place = cc in omega arith
 
 -- one byte more, if the rest is so
-plain_within : (held before : ℕ) (m : Meaning) (rest : State → ℕ → Unstuffed) (n place : ℕ) → held ≤ content_max
+plain_within : (held before : ℕ) (m : Meaning) (rest : State → ℕ → Unstuffed) (n : Refusal) (place : ℕ) → held ≤ content_max
     → (rest escaped held ≡ refused n place → Within escaped held (suc before) place)
     → (held < content_max → rest plain (suc held) ≡ refused n place → Within plain (suc held) (suc before) place)
     → taken m held (suc before) rest ≡ refused n place → Within plain held before place
@@ -48,14 +49,14 @@ plain_within held before escapes_next rest n place h escape byte e = let later =
 plain_within held before (stands_for v) rest n place h escape byte e = let later = byte_within held before rest n place h v byte e in omega arith
 plain_within held before faulty rest n place h escape byte e = let later = fault_within held before rest n place h e in omega arith
 
-escaped_within : (held before b : ℕ) (m : Meaning) (rest : State → ℕ → Unstuffed) (n place : ℕ) → held ≤ content_max → meaning escaped b ≡ m
+escaped_within : (held before b : ℕ) (m : Meaning) (rest : State → ℕ → Unstuffed) (n : Refusal) (place : ℕ) → held ≤ content_max → meaning escaped b ≡ m
     → (held < content_max → rest plain (suc held) ≡ refused n place → Within plain (suc held) (suc before) place)
     → taken m held (suc before) rest ≡ refused n place → Within escaped held before place
 escaped_within held before b escapes_next rest n place h f byte e = absurd (no_escape b f)
 escaped_within held before b (stands_for v) rest n place h f byte e = byte_within held before rest n place h v byte e
 escaped_within held before b faulty rest n place h f byte e = fault_within held before rest n place h e
 
-refused_within : (s : State) (held before : ℕ) (bytes : List ℕ) (n place : ℕ) → held ≤ content_max → unstuff_from s held before bytes ≡ refused n place
+refused_within : (s : State) (held before : ℕ) (bytes : List ℕ) (n : Refusal) (place : ℕ) → held ≤ content_max → unstuff_from s held before bytes ≡ refused n place
     → Within s held before place
 unfolding unstuff_from
 refused_within plain held before [] n place h e = impossible cc
@@ -68,6 +69,6 @@ refused_within escaped held before (b ∷ bs) n place h e =
     escaped_within held before b (meaning escaped b) (λ s₁ held₁. unstuff_from s₁ held₁ (suc before) bs) n place h refl
     (λ room f. refused_within plain (suc held) (suc before) bs n place room f) e
 
-pub place_within : (run : List ℕ) (n place : ℕ) → unstuff run ≡ refused n place → place ≤ sent_max
+pub place_within : (run : List ℕ) (n : Refusal) (place : ℕ) → unstuff run ≡ refused n place → place ≤ sent_max
 unfolding unstuff
 place_within run n place e = let within = refused_within plain 0 0 run n place (omega arith) e in omega arith

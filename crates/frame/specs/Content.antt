@@ -1,6 +1,7 @@
 -- 01, Frames: content is type, sequence, payload (0 to 383 bytes) and check (two bytes, high byte first).
 use Rattle.std.specs.Prelude.{ℕ, ◌-◌, cond, List, ◌∷◌, ◌++◌, eqb, ltb, length, take, drop, get_or}
 use Rattle.refusals.specs.Numbers.{short_content, bad_check}
+use Rattle.refusals.specs.declared.Refusal.{Refusal}
 use Rattle.crc.specs.Crc.{link_start, crc_of, check_bytes}
 
 -- 01, The receiver: type 01 is data, type 02 an acknowledgement
@@ -30,7 +31,7 @@ content_of kind sequence payload =
 -- what content turns out to be: a frame's type, sequence and payload, or a refusal with its place
 pub data Read : Type 0 where
   frame : ℕ → ℕ → List ℕ → Read
-  refused : ℕ → ℕ → Read
+  refused : Refusal → ℕ → Read
 
 -- 02, C-16: other refusals than 1, 2 and 4 give place 0, and so do wrong flags
 abbrev pub no_place : ℕ

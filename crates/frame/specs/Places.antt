@@ -2,6 +2,7 @@
 -- `length before + 1`.
 use Rattle.std.specs.Prelude.{ℕ, ◌+◌, ◌≤◌, ◌<◌, ◌≡◌, List, [], ◌∷◌, ◌++◌, ◌⊎◌, length, get_or}
 use Rattle.refusals.specs.Numbers.{bad_framing, long_content, bad_check}
+use Rattle.refusals.specs.declared.Refusal.{Refusal}
 use Rattle.crc.specs.Crc.{link_start, crc_of}
 use Rattle.frame.specs.Stuffing.{flag_byte, escape_byte, escaped_flag, escaped_escape, content_max, sent_max, content, unstuff}
 use Rattle.frame.specs.Content.{content_min, no_place}
@@ -49,14 +50,14 @@ pub record FailsCheck (run : List ℕ) (place : ℕ) : Type 0 where
   pub there : place ≡ length held
 
 -- what the place of a refusal says of the sent bytes between two flags; other refusals give place 0
-pub record Places (run : List ℕ) (n place : ℕ) : Type 0 where
+pub record Places (run : List ℕ) (n : Refusal) (place : ℕ) : Type 0 where
   pub of_1 : n ≡ bad_framing → BadEscape run place
   pub of_2 : n ≡ long_content → PassesLimit run place
   pub of_4 : n ≡ bad_check → FailsCheck run place
   pub of_others : (n ≡ bad_framing → ⊥) → (n ≡ long_content → ⊥) → (n ≡ bad_check → ⊥) → place ≡ no_place
 
 -- so an offset of 1 is from 2 to 776, of 2 from 388 to 776, and the length of 4 from 4 to 387
-pub record WithinLimits (n place : ℕ) : Type 0 where
+pub record WithinLimits (n : Refusal) (place : ℕ) : Type 0 where
   pub of_1 : n ≡ bad_framing → (2 ≤ place) × (place ≤ sent_max)
   pub of_2 : n ≡ long_content → (content_max < place) × (place ≤ sent_max)
   pub of_4 : n ≡ bad_check → (content_min ≤ place) × (place ≤ content_max)

@@ -1,10 +1,11 @@
 -- Steps of the whole-frame reader: what a sent byte begins, and what is made of a whole run.
-use Rattle.std.specs.Prelude.{ℕ, ◌≡◌, ◌+◌, ◌≤◌, cond, List, ◌∷◌, ltb, length}
+use Rattle.std.specs.Prelude.{ℕ, ◌≡◌, ◌+◌, ◌≤◌, cond, List, ◌∷◌, ltb, length, Result, Ok, Err}
 use Rattle.refusals.specs.Numbers.{bad_framing, long_content}
 use Rattle.slices.specs.Put.{put_at}
 use Rattle.frame.specs.Stuffing as stuffing
 use Rattle.frame.specs.Stuffing.{plain, content_max, joined, unstuff_from}
-use Rattle.frame.specs.declared.unstuffing.Unstuffed as declared
+use Rattle.frame.specs.Answers.{fault_at}
+use Rattle.frame.specs.declared.content.Fault.{Fault}
 
 -- an escape byte that neither 5d nor 5e follows, whatever was read before it: refusal 1 at the place behind the escape
 pub record IsFaulty (first : ℕ) (behind : List ℕ) : Type 0 where
@@ -20,13 +21,13 @@ pub record StandsFor (first : ℕ) (behind : List ℕ) (v : ℕ) (rest : List �
   pub gives : (held before place : ℕ) → place + length rest ≡ before + length (first ∷ behind)
       → unstuff_from plain held before (first ∷ behind) ≡ byte_then held v place rest
 
--- what a whole run gives, as an enum
-abbrev pub unstuff_answer : stuffing.Unstuffed → declared.Unstuffed
-unstuff_answer (stuffing.content c) = declared.TheVariants.Content (length c)
-unstuff_answer (stuffing.refused n place) = declared.TheVariants.Refused n place
+-- what a whole run gives, as a result
+abbrev pub unstuff_answer : stuffing.Unstuffed → Result ℕ Fault
+unstuff_answer (stuffing.content c) = Ok (length c)
+unstuff_answer (stuffing.refused n place) = Err (fault_at n place)
 
 -- What was unstuffed is answered, and stands in the array where it is no refusal. What a refused frame leaves in that array of the
 -- reader's own is open.
-pub record UnstuffsAs (found : stuffing.Unstuffed) (array : List ℕ) (answer : declared.Unstuffed) (exit : List ℕ) : Type 0 where
+pub record UnstuffsAs (found : stuffing.Unstuffed) (array : List ℕ) (answer : Result ℕ Fault) (exit : List ℕ) : Type 0 where
   pub answers : answer ≡ unstuff_answer found
   pub array_filled : (c : List ℕ) → found ≡ stuffing.content c → exit ≡ put_at array 0 c

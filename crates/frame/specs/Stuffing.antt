@@ -1,6 +1,7 @@
 -- 01, Frames: the bytes of a frame on the line. Each 7e becomes 7d 5e, each 7d becomes 7d 5d, no other byte is escaped.
 use Rattle.std.specs.Prelude.{ℕ, suc, ◌+◌, cond, List, [], ◌∷◌, eqb, ltb}
 use Rattle.refusals.specs.Numbers.{bad_framing, long_content}
+use Rattle.refusals.specs.declared.Refusal.{Refusal}
 use Rattle.slices.specs.Each.{each}
 
 abbrev pub flag_byte : ℕ
@@ -55,7 +56,7 @@ meaning escaped b = cond (eqb b escaped_flag) (stands_for flag_byte) (cond (eqb 
 -- unstuffing gives the content, or refusal 1 or 2 with its place
 pub data Unstuffed : Type 0 where
   content : List ℕ → Unstuffed
-  refused : ℕ → ℕ → Unstuffed
+  refused : Refusal → ℕ → Unstuffed
 
 -- b in front of what the rest gives
 abbrev pub joined : ℕ → Unstuffed → Unstuffed

@@ -4,43 +4,35 @@ ghost use Rattle.std.specs.Prelude.{MatchOption};
 ghost use Rattle.frame.specs.Stuffing.{unstuff};
 ghost use Rattle.frame.specs.ReaderSteps.{IsFaulty, StandsFor, UnstuffsAs};
 
+use crate::content::Fault;
 use crate::{CONTENT_MAX, ESCAPE, ESCAPED_DIFFERENCE, ESCAPED_ESCAPE, ESCAPED_FLAG};
-use refusals::{BAD_FRAMING, LONG_CONTENT};
+use refusals::Refusal;
 use std::slice::Iter;
 
-// What sent bytes turned out to be: so many bytes of content, or a refusal's number and its place,
-// counted in sent bytes from the opening flag as 0.
-#[derive(Clone, Copy)]
-pub enum Unstuffed {
-    Content(usize),
-    Refused { number: u8, place: usize },
-}
-
-// Unstuffs the sent bytes between two flags to the start of `content`. What a refusal leaves there is
+// Unstuffs the sent bytes between two flags to the start of `content`, and answers how many bytes stand
+// there. A refusal's place is counted in sent bytes from the opening flag as 0; what it leaves there is
 // open.
-pub(crate) fn unstuff(run: &[u8], content: &mut [u8; CONTENT_MAX]) -> Unstuffed
+pub(crate) fn unstuff(run: &[u8], content: &mut [u8; CONTENT_MAX]) -> Result<usize, Fault>
     ensures { UnstuffsAs (unstuff run.now) content.old result content.new }
 {
     let mut held = 0;
     let mut sent = run.iter();
     while let Some(first) = sent.next() {
         let place = run.len() - sent.len();
-        let Some(byte) = unescape(*first, &mut sent) else {
-            return Unstuffed::Refused {
-                number: BAD_FRAMING,
-                place: place + 1,
-            };
-        };
+        let byte = unescape(*first, &mut sent).ok_or(Fault {
+            refusal: Refusal::BadFraming,
+            place: place + 1,
+        })?;
         if held == CONTENT_MAX {
-            return Unstuffed::Refused {
-                number: LONG_CONTENT,
+            return Err(Fault {
+                refusal: Refusal::LongContent,
                 place: run.len() - sent.len(),
-            };
+            });
         }
         content[held] = byte;
         held += 1;
     }
-    Unstuffed::Content(held)
+    Ok(held)
 }
 
 // The byte of content that `first` begins, with what it takes of the sent bytes behind it. None where it

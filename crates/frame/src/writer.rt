@@ -6,23 +6,22 @@ ghost use Rattle.frame.specs.Stuffing.{escape_byte, content_max, stuff_byte, stu
 ghost use Rattle.frame.specs.Writing.{write_content, write_frame};
 
 use crate::{CHECK_START, ESCAPE, ESCAPED_ESCAPE, ESCAPED_FLAG, FLAG, PAYLOAD_MAX};
-use refusals::{LONG_PAYLOAD, SHORT_OUTPUT};
-pub use slices::Written;
+use refusals::Refusal;
 
 // Writes the frame of a type, a sequence and a payload at the start of `out`: refusal 8 for a
 // payload over 383 bytes, then refusal 7 where `out` has too little room.
-pub fn write_frame(kind: u8, sequence: u8, payload: &[u8], out: &mut [u8]) -> Written
+pub fn write_frame(kind: u8, sequence: u8, payload: &[u8], out: &mut [u8]) -> Result<usize, Refusal>
     ensures { WritesAs (write_frame (length out.old) kind sequence payload.now) out.old result out.new }
 {
     if PAYLOAD_MAX < payload.len() {
-        return Written::Refused(LONG_PAYLOAD);
+        return Err(Refusal::LongPayload);
     }
     let check = crc::check(crc::check_pair(CHECK_START, kind, sequence), payload);
     put_frame(&[kind, sequence], payload, &check.to_be_bytes(), out)
 }
 
 // Writes the frame whose content is the three parts joined, unless `out` has too little room.
-fn put_frame(head: &[u8], payload: &[u8], tail: &[u8], out: &mut [u8]) -> Written
+fn put_frame(head: &[u8], payload: &[u8], tail: &[u8], out: &mut [u8]) -> Result<usize, Refusal>
     requires { length head.now + length payload.now + length tail.now ≤ content_max }
     ensures { WritesAs (write_content (length out.old) (head.now ++ payload.now ++ tail.now)) out.old result out.new }
 {
@@ -31,14 +30,14 @@ fn put_frame(head: &[u8], payload: &[u8], tail: &[u8], out: &mut [u8]) -> Writte
     let tail_length = stuffed_length(tail);
     let length = 2 + head_length + payload_length + tail_length;
     if out.len() < length {
-        return Written::Refused(SHORT_OUTPUT);
+        return Err(Refusal::ShortOutput);
     }
     out[0] = FLAG;
     let payload_at = put_stuffed(out, 1, head);
     let tail_at = put_stuffed(out, payload_at, payload);
     let end = put_stuffed(out, tail_at, tail);
     out[end] = FLAG;
-    Written::Length(length)
+    Ok(length)
 }
 
 // How many bytes `content` has once stuffed: no byte becomes more than two.

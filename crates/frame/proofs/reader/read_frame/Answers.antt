@@ -4,6 +4,7 @@ use mathlib.Core.Path.{◌≡◌}
 use mathlib.Core.Bool.{true}
 use native.Mathlib.Omega.{arith}
 use lib.ListN.{length}
+use Rattle.refusals.specs.Numbers.{short_output}
 use Rattle.frame.specs.Content.{no_place}
 use Rattle.frame.specs.Reading.{flagged_bytes}
 use Rattle.frame.proofs.ReadLaws.{frame_no_room, frame_run, between_part, refuses}
@@ -12,7 +13,7 @@ use Rattle.frame.proofs.reader.read_frame.Goals as goal
 
 pub returns-then-out-lt-PAYLOAD_MAX : goal.returns-then-out-lt-PAYLOAD_MAX
 returns-then-out-lt-PAYLOAD_MAX c =
-    refuses _ 7 no_place c.args.out.now (frame_no_room (length c.args.out.now) c.args.bytes.now c.if-out-lt-PAYLOAD_MAX.true)
+    refuses _ short_output no_place c.args.out.now (frame_no_room (length c.args.out.now) c.args.bytes.now c.if-out-lt-PAYLOAD_MAX.true)
 
 pub returns-in-126 : goal.returns-in-126
 returns-in-126 c =

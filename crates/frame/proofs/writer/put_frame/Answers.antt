@@ -5,6 +5,7 @@ use mathlib.Core.List.{◌++◌}
 use Prim.Native.Nat.{◌+◌}
 use native.Mathlib.Omega.{arith}
 use lib.ListN.{length}
+use Rattle.refusals.specs.Numbers.{short_output}
 use Rattle.frame.specs.Writing.{framed}
 use Rattle.slices.proofs.WrittenLaws.{refuses, writes}
 use Rattle.frame.proofs.WriteLaws.{framed_length, assembled, content_no_room, content_room}
@@ -19,7 +20,7 @@ whole c = omega (arith, framed_length c.args.head.now c.args.payload.now c.args.
 
 pub returns-then-out-length : goal.returns-then-out-length
 returns-then-out-length c =
-    refuses _ 7 c.args.out.now
+    refuses _ short_output c.args.out.now
     (content_no_room (length c.args.out.now) (c.args.head.now ++ c.args.payload.now ++ c.args.tail.now) _
     (whole (goal.at.returns-then-out-length c).After-stuffed_length-tail_length) c.if-out-length.true)
 

@@ -4,6 +4,7 @@ use mathlib.Core.Path.{◌≡◌}
 use Prim.Native.Nat.{◌/◌, ◌%◌}
 use native.Mathlib.Omega.{arith}
 use lib.ListN.{length}
+use Rattle.refusals.specs.Numbers.{long_payload}
 use Rattle.slices.proofs.WrittenLaws.{refuses}
 use Rattle.crc.specs.Crc.{check_bytes}
 use Rattle.frame.proofs.WriteLaws.{content_parts, payload_too_long, payload_allowed}
@@ -11,7 +12,7 @@ use Rattle.frame.proofs.writer.write_frame.Goals as goal
 
 pub returns-then-payload-gt-PAYLOAD_MAX : goal.returns-then-payload-gt-PAYLOAD_MAX
 returns-then-payload-gt-PAYLOAD_MAX c =
-    refuses _ 8 c.args.out.now (payload_too_long (length c.args.out.now) c.args.kind c.args.sequence c.args.payload.now c.if-payload-gt-PAYLOAD_MAX.true)
+    refuses _ long_payload c.args.out.now (payload_too_long (length c.args.out.now) c.args.kind c.args.sequence c.args.payload.now c.if-payload-gt-PAYLOAD_MAX.true)
 
 pub returns : goal.returns
 returns c =

@@ -1,3 +1,4 @@
+pub mod NumberLaws
 pub mod ReportLaws
 pub mod HostCalls
 pub mod DamagedFrames

@@ -1,38 +1,39 @@
 -- What the frame functions answer fits its part of a report, and each part of a report can be read off it, since it has digits
 -- of its own.
-use mathlib.Core.Path.{◌≡◌, refl}
+use mathlib.Core.Path.{◌≡◌, refl, ap}
 use mathlib.Core.List.{List}
 use Prim.Native.Nat.{ℕ, ◌≤◌, ◌<◌}
 use native.Mathlib.Omega.{arith}
 use lib.ListN.{length}
+use Rattle.std.specs.Prelude.{Ok, Err}
+use Rattle.refusals.specs.declared.Refusal.{Refusal}
 use Rattle.slices.specs.Written as writing
 use Rattle.slices.specs.Written.{Output, write_answer, WritesAs}
-use Rattle.slices.specs.declared.Written.TheVariants as written
 use Rattle.slices.proofs.Impossible.{impossible}
 use Rattle.frame.specs.Content as content
 use Rattle.frame.specs.Content.{no_place}
-use Rattle.frame.specs.Answers.{read_answer}
-use Rattle.frame.specs.declared.content.FrameRead.TheVariants as read
+use Rattle.frame.specs.Answers.{read_answer, frame_found, fault_at}
+use Rattle.frame.specs.declared.content.Frame.{Frame}
+use Rattle.frame.proofs.ContentLaws.{same_fault}
 use Rattle.host.specs.Report.{report_of, Parts}
 
 -- a length that was answered is that of a payload that was read, or of a frame that was written
 pub read_size : (found : content.Read) (k q n limit : ℕ)
-    → ((k₁ q₁ : ℕ) (p : List ℕ) → found ≡ content.frame k₁ q₁ p → length p ≤ limit) → read.Frame k q n ≡ read_answer found → n ≤ limit
+    → ((k₁ q₁ : ℕ) (p : List ℕ) → found ≡ content.frame k₁ q₁ p → length p ≤ limit) → Ok (frame_found k q n) ≡ read_answer found → n ≤ limit
 read_size (content.frame k₁ q₁ p) k q n limit bound e =
-    let size : n ≡ length p = cc in
-    rw size (bound k₁ q₁ p refl)
+    let same : frame_found k q n ≡ frame_found k₁ q₁ (length p) = cc in
+    rw (ap (λ (f : Frame). f.length) same) (bound k₁ q₁ p refl)
 read_size (content.refused m place) k q n limit bound e = impossible cc
 
 -- and a place that was answered is that of a refusal
-pub read_place : (found : content.Read) (n place limit : ℕ)
-    → ((n₁ place₁ : ℕ) → found ≡ content.refused n₁ place₁ → place₁ ≤ limit) → read.Refused n place ≡ read_answer found → place ≤ limit
+pub read_place : (found : content.Read) (n : Refusal) (place limit : ℕ)
+    → ((n₁ : Refusal) (place₁ : ℕ) → found ≡ content.refused n₁ place₁ → place₁ ≤ limit) → Err (fault_at n place) ≡ read_answer found → place ≤ limit
 read_place (content.frame k q p) n place limit bound e = impossible cc
 read_place (content.refused n₁ place₁) n place limit bound e =
-    let there : place ≡ place₁ = cc in
-    rw there (bound n₁ place₁ refl)
+    rw (same_fault n n₁ place place₁ e).1 (bound n₁ place₁ refl)
 
 pub write_size : (result : Output) (n limit : ℕ)
-    → ((sent : List ℕ) → result ≡ writing.written sent → length sent ≤ limit) → written.Length n ≡ write_answer result → n ≤ limit
+    → ((sent : List ℕ) → result ≡ writing.written sent → length sent ≤ limit) → Ok n ≡ write_answer result → n ≤ limit
 write_size (writing.written sent) n limit bound e =
     let size : n ≡ length sent = cc in
     rw size (bound sent refl)

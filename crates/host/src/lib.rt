@@ -8,9 +8,8 @@ ghost use Rattle.frame.specs.Writing.{write_frame};
 ghost use Rattle.host.specs.Report.{report_of, ReportsRead, ReportsWritten};
 
 use frame::NO_PLACE;
-use frame::content::FrameRead;
 use frame::reader::read_frame;
-use frame::writer::{Written, write_frame};
+use frame::writer::write_frame;
 
 // The CRC of `bytes` from the start value `start`.
 #[unsafe(no_mangle)]
@@ -27,12 +26,8 @@ pub extern "C" fn arznavik_frame_check(bytes: &[u8], output: &mut [u8]) -> u64
     ensures { ReportsRead (read_frame (length output.old) bytes.now) output.old result output.new }
 {
     match read_frame(bytes, output) {
-        FrameRead::Refused { number, place } => report(number, 0, 0, 0, place),
-        FrameRead::Frame {
-            kind,
-            sequence,
-            length,
-        } => report(0, kind, sequence, length, NO_PLACE),
+        Err(fault) => report(fault.refusal.number(), 0, 0, 0, fault.place),
+        Ok(frame) => report(0, frame.kind, frame.sequence, frame.length, NO_PLACE),
     }
 }
 
@@ -48,8 +43,8 @@ pub extern "C" fn arznavik_frame_write(
     ensures { ReportsWritten (write_frame (length output.old) kind sequence payload.now) output.old result output.new }
 {
     match write_frame(kind, sequence, payload, output) {
-        Written::Refused(number) => report(number, 0, 0, 0, NO_PLACE),
-        Written::Length(length) => report(0, 0, 0, length, NO_PLACE),
+        Err(refusal) => report(refusal.number(), 0, 0, 0, NO_PLACE),
+        Ok(length) => report(0, 0, 0, length, NO_PLACE),
     }
 }
 

@@ -11,12 +11,12 @@ use Rattle.host.proofs.arznavik_frame_check.Goals as goal
 
 pub report-requires : goal.report-requires
 report-requires c =
-    let answers = c.in-Refused.ensures.answers in
+    let answers = c.in-Err.ensures.answers in
     let small = read_place (read_frame (length c.args.output.now) c.args.bytes.now) _ _ sent_max (λ n place. reader_place n place _ _) answers in
     (omega arith, omega (arith, small))
 
-pub report-requires-in-Frame : goal.report-requires-in-Frame
-report-requires-in-Frame c =
-    let answers = c.in-Frame.ensures.answers in
+pub report-requires-in-Ok : goal.report-requires-in-Ok
+report-requires-in-Ok c =
+    let answers = c.in-Ok.ensures.answers in
     let small = read_size (read_frame (length c.args.output.now) c.args.bytes.now) _ _ _ payload_max (read_bounded _ _) answers in
     (omega (arith, small), omega arith)

@@ -10,24 +10,22 @@ use lib.Dec.{leb, ltb}
 use lib.ListN.{length, take, get_or, length-append}
 use lib.Seq.{take-append_seam, drop-append_seam}
 use borrow.Author.Tests.{le-leb, ltb-false}
-use Rattle.std.specs.Prelude.{Option, Some, None}
-use Rattle.refusals.specs.Numbers.{bad_name, bad_fragment}
+use Rattle.std.specs.Prelude.{Option, Some, None, Result, Ok}
+use Rattle.refusals.specs.Numbers.{short_output, bad_name, bad_fragment}
 use Rattle.slices.proofs.Impossible.{impossible}
 use Rattle.slices.specs.HighFirst.{word_of, pair_of}
 use Rattle.slices.proofs.HighFirstLaws.{word_back, pair_back}
 use Rattle.slices.specs.Put.{put_at}
 use Rattle.slices.specs.Written.{written, refused, fitted, WritesAs}
-use Rattle.slices.specs.declared.Written.{Written}
-use Rattle.slices.specs.declared.Written.TheVariants.{Length}
+use Rattle.refusals.specs.declared.Refusal.{Refusal}
 use Rattle.slices.proofs.PutLaws.{put_told}
 use Rattle.slices.proofs.Lent.{Slice}
 use Rattle.packet.specs.Items.{Item, in_front, empty_if_eof, eofs_empty, if_eofs_empty, items_filling, items_of, item_bytes, items_bytes, value_in}
 use Rattle.packet.specs.Packet.{Packet, packet, is_data, with_items, packet_of, judged_items, packet_items, packet_bytes}
 use Rattle.packet.specs.Names.{valid_name, valid_location}
-use Rattle.packet.specs.Answers.{reading_of}
+use Rattle.packet.specs.Answers.{head_of_packet, reading_of}
 use Rattle.packet.specs.Requests.{name_item, location_item, offset_item, offset_items, get_packet, file_packet, fetched_packet, stop_packet, property_get, file_request, fetched_request, stop_request}
-use Rattle.packet.specs.declared.reading.Reading.{Reading}
-use Rattle.packet.specs.declared.reading.Reading.TheVariants as reading
+use Rattle.packet.specs.declared.reading.Head.{Head}
 use Rattle.packet.proofs.ItemLaws.{items_end, items_rule}
 use Rattle.packet.proofs.WriteLaws.{get_fits, file_fits, fetched_fits, stop_fits}
 use Rattle.packet.proofs.RequestCalls.{ReadPacketCall, CountAllCall, ValueCall, PropertyGetCall, FileRequestCall, FetchedCall, StopCall, packet_was_read, items_were_counted, value_was_read, get_was_written, file_was_written, fetched_was_written, stop_was_written}
@@ -56,7 +54,7 @@ packet_back p empty =
 pub record ReadAs (p : Packet) (bytes : List ℕ) : Type 0 where
   pub by_the_rules : packet_of bytes ≡ packet p
   pub items_are : packet_items bytes ≡ p.items
-  pub by_a_call : (answer : Reading) → ReadPacketCall bytes answer → answer ≡ reading.Packet p.opcode p.id
+  pub by_a_call : (answer : Result Head Refusal) → ReadPacketCall bytes answer → answer ≡ Ok (head_of_packet p)
   pub counted : (answer : ℕ) → CountAllCall bytes answer → answer ≡ length p.items
   pub value_read : (kind : ℕ) (answer : Slice) → ValueCall kind bytes answer → answer.now ≡ value_in kind p.items
 
@@ -74,18 +72,18 @@ read_as p bytes e =
 
 -- the bytes that a writer put, read as a packet, whatever else the output holds
 written_back :
-    (p : Packet) (t : Bool) (number : ℕ) (out after : List ℕ) (n : ℕ)
+    (p : Packet) (t : Bool) (r : Refusal) (out after : List ℕ) (n : ℕ)
     → eofs_empty p.items ≡ true
-    → WritesAs (cond t (fitted (length out) (packet_bytes p)) (refused number)) out (Length n) after
+    → WritesAs (cond t (fitted (length out) (packet_bytes p)) (refused r)) out (Ok n) after
     → ReadAs p (take n after)
 unfolding fitted
-written_back p false number out after n empty w = let a = w.answers in impossible cc
-written_back p true number out after n empty w = cases (ltb (length out) (length (packet_bytes p))) refl
+written_back p false r out after n empty w = let a = w.answers in impossible cc
+written_back p true r out after n empty w = cases (ltb (length out) (length (packet_bytes p))) refl
   where
     cases : (short : Bool) → ltb (length out) (length (packet_bytes p)) ≡ short → ReadAs p (take n after)
     cases true e = let a = rw e at w.answers in impossible cc
     cases false e =
-        let a : Length n ≡ Length (length (packet_bytes p)) = rw e at w.answers in
+        let a : Ok n ≡ Ok (length (packet_bytes p)) = rw e at w.answers in
         let size : n ≡ length (packet_bytes p) = cc in
         let put : after ≡ put_at out 0 (packet_bytes p) = rw e at w.put in
         let fits = ltb-false (length out) (length (packet_bytes p)) e in
@@ -95,11 +93,11 @@ written_back p true number out after n empty w = cases (ltb (length out) (length
 -- THEOREMS. 01, Items and packets, the four requests: behind a call of the writer that answered n, the first n bytes of its output are read
 -- as its packet.
 module _ (id : ℕ) (before : List ℕ) (n : ℕ) (after : List ℕ) where
-  pub property_get_back : (name : List ℕ) → PropertyGetCall id name before (Length n) after → ReadAs (get_packet id name) (take n after)
+  pub property_get_back : (name : List ℕ) → PropertyGetCall id name before (Ok n) after → ReadAs (get_packet id name) (take n after)
   unfolding property_get get_packet name_item eofs_empty empty_if_eof
   property_get_back name c = written_back (get_packet id name) (valid_name name) bad_name before after n refl (get_was_written c)
 
-  pub file_request_back : (location : List ℕ) (offset : Option ℕ) → FileRequestCall id location offset before (Length n) after
+  pub file_request_back : (location : List ℕ) (offset : Option ℕ) → FileRequestCall id location offset before (Ok n) after
       → ReadAs (file_packet id location offset) (take n after)
   unfolding file_request file_packet location_item offset_item offset_items eofs_empty empty_if_eof
   file_request_back location (Some place) c =
@@ -107,16 +105,16 @@ module _ (id : ℕ) (before : List ℕ) (n : ℕ) (after : List ℕ) where
   file_request_back location None c =
       written_back (file_packet id location None) (valid_location location) bad_fragment before after n refl (file_was_written c)
 
-  pub fetched_back : (location : List ℕ) → FetchedCall id location before (Length n) after → ReadAs (fetched_packet id location) (take n after)
+  pub fetched_back : (location : List ℕ) → FetchedCall id location before (Ok n) after → ReadAs (fetched_packet id location) (take n after)
   unfolding fetched_request fetched_packet location_item eofs_empty empty_if_eof
   fetched_back location c = written_back (fetched_packet id location) (valid_location location) bad_fragment before after n refl (fetched_was_written c)
 
-  pub stop_back : StopCall id before (Length n) after → ReadAs (stop_packet id) (take n after)
+  pub stop_back : StopCall id before (Ok n) after → ReadAs (stop_packet id) (take n after)
   unfolding stop_request stop_packet eofs_empty
-  stop_back c = written_back (stop_packet id) true 0 before after n refl (stop_was_written c)
+  stop_back c = written_back (stop_packet id) true short_output before after n refl (stop_was_written c)
 
 -- THEOREMS. With a valid name or location and room for the packet, every call writes it and answers its length.
-module _ (id : ℕ) (before : List ℕ) (answer : Written) (after : List ℕ) where
+module _ (id : ℕ) (before : List ℕ) (answer : Result ℕ Refusal) (after : List ℕ) where
   pub property_get_writes : (name : List ℕ) → valid_name name ≡ true → length (packet_bytes (get_packet id name)) ≤ length before
       → PropertyGetCall id name before answer after → WritesAs (written (packet_bytes (get_packet id name))) before answer after
   property_get_writes name valid room c = rw (get_fits id name (length before) valid room) at (get_was_written c)

@@ -5,12 +5,11 @@ use mathlib.Core.List.{List, [], ◌∷◌, ◌++◌}
 use Prim.Native.Nat.{ℕ, ◌+◌, ◌/◌, ◌%◌, ◌^◌, ◌≤◌, ◌<◌}
 use native.Mathlib.Omega.{arith}
 use lib.ListN.{length, length-append}
-use Rattle.std.specs.Prelude.{Option, Some, None}
+use Rattle.std.specs.Prelude.{Option, Some, None, Ok, Err}
 use Rattle.refusals.specs.Numbers.{short_output}
 use Rattle.std.specs.Int.{w32, to_be_bytes}
 use Rattle.slices.specs.Put.{put_at}
 use Rattle.slices.specs.Written.{written, fitted, WritesAs}
-use Rattle.slices.specs.declared.Written.TheVariants.{Length, Refused}
 use Rattle.slices.proofs.WrittenLaws.{too_little_room, room_enough, refuses, writes}
 use Rattle.slices.proofs.HighFirstLaws.{four_bytes}
 use Rattle.slices.proofs.PutLaws.{put_append}
@@ -29,7 +28,7 @@ module _ (opcode id : ℕ) (front value further : List ℕ) where
       omega arith
 
   -- too little room for the packet
-  pub packet_short : (d : List ℕ) → length d < 4 + length front + length value + length further → WritesAs (fitted (length d) (with_head opcode id (front ++ value ++ further))) d (Refused short_output) d
+  pub packet_short : (d : List ℕ) → length d < 4 + length front + length value + length further → WritesAs (fitted (length d) (with_head opcode id (front ++ value ++ further))) d (Err short_output) d
   packet_short d h = refuses _ short_output d (too_little_room (length d) (with_head opcode id (front ++ value ++ further)) _ packet_length h)
 
   -- the packet put part by part
@@ -40,7 +39,7 @@ module _ (opcode id : ℕ) (front value further : List ℕ) where
       → d₂ ≡ put_at d₁ 4 front
       → d₃ ≡ put_at d₂ (4 + length front) value
       → d₄ ≡ put_at d₃ (4 + length front + length value) further
-      → WritesAs (fitted (length d) (with_head opcode id (front ++ value ++ further))) d (Length (4 + length front + length value + length further)) d₄
+      → WritesAs (fitted (length d) (with_head opcode id (front ++ value ++ further))) d (Ok (4 + length front + length value + length further)) d₄
   packet_put d d₁ d₂ d₃ d₄ h e₁ e₂ e₃ e₄ =
       let inner : length (front ++ value) ≡ length front + length value = length-append front value in
       let second : 0 + length (with_head opcode id front) ≡ 4 + length front = omega arith in

@@ -1,18 +1,22 @@
 -- What the readers of a packet answer, as the code's own types, from the list of its items.
-use Rattle.std.specs.Prelude.{ℕ, ◌+◌, cond, List, [], ◌∷◌, eqb, length, take, drop, Some, None}
+use Rattle.std.specs.Prelude.{ℕ, ◌+◌, cond, List, [], ◌∷◌, eqb, length, take, drop, Some, None, Result, Ok, Err}
 use Rattle.std.specs.declared.option.Option as rust
 use Rattle.std.proofs.Math.Option.{Option, none, some}
 use Rattle.packet.specs.Items.{Item, count_of}
-use Rattle.packet.specs.Packet.{head_length, Judged, packet, refused, packet_of, packet_items}
-use Rattle.packet.specs.declared.reading.Reading.{Reading}
-use Rattle.packet.specs.declared.reading.Reading.TheVariants.{Packet, Refused}
+use Rattle.refusals.specs.declared.Refusal.{Refusal}
+use Rattle.packet.specs.Packet.{head_length, Packet, Judged, packet, refused, packet_of}
+use Rattle.packet.specs.declared.reading.Head.{Head}
 use Rattle.packet.specs.declared.reading.Look.{Look}
 use Rattle.packet.specs.declared.items.Item as code
 
--- the packet reader's answer: opcode and id, or 01's number
-unfoldable pub reading_of : Judged → Reading
-reading_of (packet p) = Packet p.opcode p.id
-reading_of (refused number) = Refused number
+-- a packet's opcode and id
+abbrev pub head_of_packet : Packet → Head
+head_of_packet p = record { opcode = p.opcode; id = p.id }
+
+-- the packet reader's answer: opcode and id, or the refusal
+unfoldable pub reading_of : Judged → Result Head Refusal
+reading_of (packet p) = Ok (head_of_packet p)
+reading_of (refused r) = Err r
 
 -- an item as the readers answer it, or that none was found
 abbrev pub Found : Type 0
@@ -45,14 +49,22 @@ unfoldable pub item_at : List ℕ → Found → Option Item
 item_at bytes (Some found) = some (record { kind = found.kind; value = take found.length (drop found.start bytes) })
 item_at bytes None = none
 
--- one look at a packet for a kind: the packet reader's answer, how many items there are and how many of the kind, the first
--- of these and the item right behind it; a refused packet has no items
-abbrev pub look_of : ℕ → List ℕ → Look
-look_of kind bytes =
+-- one look at a packet for a kind: its opcode and id, how many items there are and how many of the kind, the first of these and
+-- the item right behind it
+abbrev pub look_at : ℕ → Packet → Look
+look_at kind p =
     record {
-      reading = reading_of (packet_of bytes);
-      all = length (packet_items bytes);
-      count = count_of kind (packet_items bytes);
-      first = find_in head_length kind (packet_items bytes);
-      behind = behind_in head_length kind (packet_items bytes);
+      head = head_of_packet p;
+      all = length p.items;
+      count = count_of kind p.items;
+      first = find_in head_length kind p.items;
+      behind = behind_in head_length kind p.items;
     }
+
+-- the same of a packet as it was judged, or the refusal
+unfoldable pub look_by : ℕ → Judged → Result Look Refusal
+look_by kind (packet p) = Ok (look_at kind p)
+look_by kind (refused r) = Err r
+
+abbrev pub look_of : ℕ → List ℕ → Result Look Refusal
+look_of kind bytes = look_by kind (packet_of bytes)

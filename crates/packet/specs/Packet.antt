@@ -2,6 +2,7 @@
 use Rattle.std.specs.Prelude.{ℕ, Bool, cond, ◌&&◌, List, [], ◌∷◌, ◌++◌, leb, eqb, length, get_or, drop}
 use Rattle.std.proofs.Math.Option.{Option, none, some}
 use Rattle.refusals.specs.Numbers.{no_data_packet, bad_items}
+use Rattle.refusals.specs.declared.Refusal.{Refusal}
 use Rattle.slices.specs.HighFirst.{pair_of, high_first}
 use Rattle.packet.specs.Items.{Item, items_of, items_bytes}
 
@@ -18,10 +19,10 @@ pub record Packet : Type 0 where
   pub id : ℕ
   pub items : List Item
 
--- what reading gives: a packet, or the number of the refusal
+-- what reading gives: a packet, or the refusal
 pub data Judged : Type 0 where
   packet : Packet → Judged
-  refused : ℕ → Judged
+  refused : Refusal → Judged
 
 -- 01, Refusal numbers, 9: a packet has under 4 bytes or its first byte is not 1
 unfoldable pub is_data : List ℕ → Bool
@@ -42,7 +43,7 @@ packet_of bytes =
 -- the items of a packet, and no items where it is refused
 unfoldable pub judged_items : Judged → List Item
 judged_items (packet p) = p.items
-judged_items (refused number) = []
+judged_items (refused r) = []
 
 unfoldable pub packet_items : List ℕ → List Item
 packet_items bytes = judged_items (packet_of bytes)

@@ -8,8 +8,6 @@ use Rattle.packet.specs.Items.{Item, count_of}
 use Rattle.packet.specs.Answers.{Found, find_in, behind_in}
 use Rattle.packet.specs.declared.items.Item as code
 use Rattle.packet.specs.declared.items.Survey.{Survey}
-use Rattle.packet.specs.declared.reading.Look.{Look}
-use Rattle.packet.specs.declared.reading.Reading.TheVariants.{Refused}
 
 -- a type byte, a length byte N, and N bytes behind them: none if the type is EOF
 unfoldable pub begins_with_item : List ℕ → Bool
@@ -54,7 +52,3 @@ survey_of at kind items =
 unfoldable pub tally_of : ℕ → ℕ → Option (List Item) → rust.Option Survey
 tally_of at kind none = None
 tally_of at kind (some items) = Some (survey_of at kind items)
-
--- a look at a packet that is refused
-abbrev pub refused_look : ℕ → Look
-refused_look number = record { reading = Refused number; all = 0; count = 0; first = None; behind = None }

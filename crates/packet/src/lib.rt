@@ -13,10 +13,9 @@ pub use kinds::{
 };
 pub use names::{LONGEST_LOCATION, valid_location, valid_name};
 pub use reading::{
-    Look, Reading, behind, count, count_all, find, look_for, read_packet, value, value_at,
+    Head, Look, behind, count, count_all, find, look_for, read_packet, value, value_at,
 };
 pub use requests::{fetched, file_request, property_get, stop};
-pub use slices::Written;
 
 // A data packet's first byte.
 const DATA: u8 = 1;

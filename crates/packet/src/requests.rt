@@ -7,8 +7,7 @@ ghost use Rattle.packet.specs.WriterSteps.{request_bytes, located_request};
 
 use crate::names::{valid_location, valid_name};
 use crate::{DATA, HEAD_LENGTH, LOCATION_KIND, NAME_KIND, OFFSET_KIND};
-use refusals::{BAD_FRAGMENT, BAD_NAME, SHORT_OUTPUT};
-use slices::Written;
+use refusals::Refusal;
 
 // The opcodes of the four requests.
 // Numbers, not an enum: each is only written, as the byte that it is.
@@ -32,7 +31,7 @@ fn write_packet(
     value: &[u8],
     further: &[u8],
     out: &mut [u8],
-) -> Written
+) -> Result<usize, Refusal>
     requires { length front.now + length value.now + length further.now < 65536 }
     ensures { WritesAs (fitted (length out.old) (with_head opcode id (front.now ++ value.now ++ further.now))) out.old result out.new }
 {
@@ -40,7 +39,7 @@ fn write_packet(
     let second = first + value.len();
     let total = second + further.len();
     if out.len() < total {
-        return Written::Refused(SHORT_OUTPUT);
+        return Err(Refusal::ShortOutput);
     }
     let [high, low] = id.to_be_bytes();
     let head = [DATA, opcode, high, low];
@@ -48,7 +47,7 @@ fn write_packet(
     slices::put(out, HEAD_LENGTH, front);
     slices::put(out, first, value);
     slices::put(out, second, further);
-    Written::Length(total)
+    Ok(total)
 }
 
 // Writes a request whose first item has the kind and the value; `further` are its other items.
@@ -59,7 +58,7 @@ fn write_request(
     value: &[u8],
     further: &[u8],
     out: &mut [u8],
-) -> Written
+) -> Result<usize, Refusal>
     requires { length value.now + length further.now < 256 }
     ensures { WritesAs (fitted (length out.old) (request_bytes opcode id kind value.now further.now)) out.old result out.new }
 {
@@ -70,23 +69,29 @@ fn write_request(
 
 // Writes a request for the file at a location: refusal 20 for one that is not valid, then 7.
 #[tactic(auto, using(crate::proofs::NameLaws::location_size), unfolding(crate::specs::WriterSteps::located_request))]
-fn write_located(opcode: u8, id: u16, location: &[u8], further: &[u8], out: &mut [u8]) -> Written
+fn write_located(
+    opcode: u8,
+    id: u16,
+    location: &[u8],
+    further: &[u8],
+    out: &mut [u8],
+) -> Result<usize, Refusal>
     requires { length further.now < 128 }
     ensures { WritesAs (located_request opcode id location.now further.now (length out.old)) out.old result out.new }
 {
     if !valid_location(location) {
-        return Written::Refused(BAD_FRAGMENT);
+        return Err(Refusal::BadFragment);
     }
     write_request(opcode, id, LOCATION_KIND, location, further, out)
 }
 
 // Writes a property get: refusal 12 for a name that is not valid, then 7.
 #[tactic(auto, using(crate::proofs::NameLaws::name_size, crate::proofs::WriteLaws::get_bytes), unfolding(crate::specs::Requests::property_get))]
-pub fn property_get(id: u16, name: &[u8], out: &mut [u8]) -> Written
+pub fn property_get(id: u16, name: &[u8], out: &mut [u8]) -> Result<usize, Refusal>
     ensures { WritesAs (property_get id name.now (length out.old)) out.old result out.new }
 {
     if !valid_name(name) {
-        return Written::Refused(BAD_NAME);
+        return Err(Refusal::BadName);
     }
     write_request(GET_OPCODE, id, NAME_KIND, name, b"", out)
 }
@@ -94,7 +99,12 @@ pub fn property_get(id: u16, name: &[u8], out: &mut [u8]) -> Written
 // Writes a file request: refusal 20 for a location that is not valid, then 7. The file is sent from
 // the offset on, if one is given.
 #[tactic(auto, using(crate::proofs::WriteLaws::file_bytes, crate::proofs::WriteLaws::file_bytes_from), unfolding(crate::specs::Requests::file_request, crate::specs::WriterSteps::located_request))]
-pub fn file_request(id: u16, location: &[u8], offset: Option<u32>, out: &mut [u8]) -> Written
+pub fn file_request(
+    id: u16,
+    location: &[u8],
+    offset: Option<u32>,
+    out: &mut [u8],
+) -> Result<usize, Refusal>
     ensures { WritesAs (file_request id location.now offset (length out.old)) out.old result out.new }
 {
     let Some(place) = offset else {
@@ -107,7 +117,7 @@ pub fn file_request(id: u16, location: &[u8], offset: Option<u32>, out: &mut [u8
 
 // Writes a fetched packet: refusal 20 for a location that is not valid, then 7.
 #[tactic(auto, using(crate::proofs::WriteLaws::fetched_bytes), unfolding(crate::specs::Requests::fetched_request, crate::specs::WriterSteps::located_request))]
-pub fn fetched(id: u16, location: &[u8], out: &mut [u8]) -> Written
+pub fn fetched(id: u16, location: &[u8], out: &mut [u8]) -> Result<usize, Refusal>
     ensures { WritesAs (fetched_request id location.now (length out.old)) out.old result out.new }
 {
     write_located(FETCHED_OPCODE, id, location, b"", out)
@@ -115,7 +125,7 @@ pub fn fetched(id: u16, location: &[u8], out: &mut [u8]) -> Written
 
 // Writes a stop packet, which has no items: refusal 7.
 #[tactic(auto, using(crate::proofs::WriteLaws::stop_bytes), unfolding(crate::specs::Requests::stop_request))]
-pub fn stop(id: u16, out: &mut [u8]) -> Written
+pub fn stop(id: u16, out: &mut [u8]) -> Result<usize, Refusal>
     ensures { WritesAs (stop_request id (length out.old)) out.old result out.new }
 {
     write_packet(STOP_OPCODE, id, b"", b"", b"", out)

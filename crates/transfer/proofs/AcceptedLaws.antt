@@ -8,6 +8,7 @@ use lib.Dec.{eqb, ltb}
 use lib.ListN.{length}
 use borrow.Author.Tests.{eqb-true, ltb-false, not-true}
 use Rattle.std.specs.Prelude.{Some}
+use Rattle.refusals.specs.declared.Refusal.{Refusal}
 use Rattle.refusals.specs.Numbers.{other_opcode, other_location, wrong_offset, past_length, early_end}
 use Rattle.slices.proofs.Impossible.{impossible}
 use Rattle.slices.specs.Same.{same_bytes}
@@ -39,13 +40,13 @@ module _ (offset next : ℕ) (declared : Declared) (last : Bool) where
     on : Accepts v
 
   -- past a test that refuses where it fails, and past one that refuses where it holds
-  kept : (t : Bool) (v : Verdict) (number : ℕ) → Accepts (cond t v (refused number)) → Past t true v
-  kept true v number e = record { test = refl; on = e }
-  kept false v number e = impossible cc
+  kept : (t : Bool) (v : Verdict) (r : Refusal) → Accepts (cond t v (refused r)) → Past t true v
+  kept true v r e = record { test = refl; on = e }
+  kept false v r e = impossible cc
 
-  passed : (t : Bool) (v : Verdict) (number : ℕ) → Accepts (cond t (refused number) v) → Past t false v
-  passed true v number e = impossible cc
-  passed false v number e = record { test = refl; on = e }
+  passed : (t : Bool) (v : Verdict) (r : Refusal) → Accepts (cond t (refused r) v) → Past t false v
+  passed true v r e = impossible cc
+  passed false v r e = record { test = refl; on = e }
 
   module _ (transfer : Transfer) (room : ℕ) (items : List Item) where
     abbrev count : ℕ
@@ -81,7 +82,7 @@ module _ (offset next : ℕ) (declared : Declared) (last : Bool) where
 
   pub fragment_accepted : (transfer : Transfer) (room : ℕ) (j : Judged) → verdict_of transfer room j ≡ accepted offset next declared last → AcceptedBy transfer room (length (value_in binary_kind (judged_items j))) offset next declared last
   unfolding verdict_of judged_items
-  fragment_accepted transfer room (judged.refused number) e = impossible cc
+  fragment_accepted transfer room (judged.refused r) e = impossible cc
   fragment_accepted transfer room (judged.packet p) e = accepted_form transfer room p.items (form_of p.items) (kept (eqb p.opcode fragment_opcode) _ other_opcode e).on
 
 -- a last fragment reaches the declared length exactly

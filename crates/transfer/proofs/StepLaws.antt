@@ -4,6 +4,7 @@ use mathlib.Core.Option.{Option, none, some}
 use Prim.Native.Nat.{ℕ}
 use Rattle.std.specs.Prelude.{Some, None, Result, Ok, Err}
 use Rattle.std.specs.declared.option.Option as rust
+use Rattle.refusals.specs.declared.Refusal.{Refusal}
 use Rattle.slices.proofs.Impossible.{impossible}
 use Rattle.packet.specs.Answers.{Found}
 use Rattle.transfer.specs.Fragment.{Form, good, bad}
@@ -39,11 +40,11 @@ form_told = told_by as_form form_back same
     same (good offset declared last) = refl
     same bad = refl
 
-abbrev pub verdict_back : Result code.Accepted ℕ → Verdict
+abbrev pub verdict_back : Result code.Accepted Refusal → Verdict
 verdict_back (Ok a) = accepted a.offset a.next a.declared a.last
 verdict_back (Err n) = refused n
 
-pub verdict_told : (binary : Found) (v : Verdict) (answer : Result code.Accepted ℕ) → answer ≡ as_verdict binary v → v ≡ verdict_back answer
+pub verdict_told : (binary : Found) (v : Verdict) (answer : Result code.Accepted Refusal) → answer ≡ as_verdict binary v → v ≡ verdict_back answer
 verdict_told binary = told_by (as_verdict binary) verdict_back same
   where
     same : (v : Verdict) → verdict_back (as_verdict binary v) ≡ v

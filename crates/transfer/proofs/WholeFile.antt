@@ -19,7 +19,8 @@ use Rattle.packet.specs.Packet.{packet_of, packet_items}
 use Rattle.transfer.specs.Fragment.{Declared}
 use Rattle.transfer.specs.Transfer.{Verdict, accepted, refused, fresh_transfer, refused_with, start_of, outcome_by, file_by, verdict_for, Takes}
 use Rattle.transfer.specs.Calls.{Held, accepted_bytes, started, left}
-use Rattle.transfer.specs.declared.taking.Answer.TheVariants as answer
+use Rattle.std.specs.Prelude.{Ok}
+use Rattle.refusals.specs.declared.Refusal.{Refusal}
 use Rattle.transfer.specs.declared.taking.Outcome.{Outcome}
 use Rattle.transfer.proofs.FileCalls.{Starts, Calls, none, call, was_started, was_taken}
 use Rattle.transfer.proofs.AcceptedLaws.{AcceptedBy, fragment_accepted, last_reaches}
@@ -42,14 +43,14 @@ module _ (first : List ℕ) (held : Held) (holds : Holds first held) (bytes : Li
   left_by v = left held bytes (file_by held.file value v) (outcome_by held.transfer v)
 
   -- a refused packet adds nothing to what is joined
-  same_joined : (number : ℕ) → (left_by (refused number)).joined ≡ held.joined
+  same_joined : (r : Refusal) → (left_by (refused r)).joined ≡ held.joined
   unfolding outcome_by accepted_bytes
-  same_joined number = append-nil held.joined
+  same_joined r = append-nil held.joined
 
-  refused_holds : (number : ℕ) → Holds first (left_by (refused number))
+  refused_holds : (r : Refusal) → Holds first (left_by (refused r))
   unfolding outcome_by file_by
-  refused_holds number =
-      rw (same_joined number)
+  refused_holds r =
+      rw (same_joined r)
       record { laid = holds.laid; counted = holds.counted; fits = holds.fits; whole = holds.whole }
 
   accepted_holds : (offset next : ℕ) (declared : Declared) (last : Bool) → verdict_for held.transfer bytes held.file ≡ accepted offset next declared last → Holds first (left_by (accepted offset next declared last))
@@ -73,7 +74,7 @@ module _ (first : List ℕ) (held : Held) (holds : Holds first held) (bytes : Li
   call_holds after outcome takes = rw (takes.answered, takes.written) (cases (verdict_for held.transfer bytes held.file) refl)
     where
       cases : (v : Verdict) → verdict_for held.transfer bytes held.file ≡ v → Holds first (left_by v)
-      cases (refused number) e = refused_holds number
+      cases (refused r) e = refused_holds r
       cases (accepted offset next declared last) e = accepted_holds offset next declared last e
 
 calls_hold : (first : List ℕ) (held end : Held) (packets : List (List ℕ)) → Holds first held → Calls held packets end → Holds first end
@@ -95,7 +96,7 @@ start_holds location file = cases (valid_location location)
           whole = λ total ended known. impossible cc;
         }
 
-    cases : (t : Bool) → Holds file (record { transfer = (cond t (record { transfer = fresh_transfer location; answer = answer.Accepted }) (refused_with (fresh_transfer []) bad_fragment)).transfer; file = file; joined = [] })
+    cases : (t : Bool) → Holds file (record { transfer = (cond t (record { transfer = fresh_transfer location; answer = Ok tt }) (refused_with (fresh_transfer []) bad_fragment)).transfer; file = file; joined = [] })
     cases true = fresh location
     cases false = fresh []
 

@@ -1,11 +1,13 @@
 -- What the steps of the receiver answer, as the code's own types. The proofs of `take` tie these to the definitions of Fragment and Transfer.
-use Rattle.std.specs.Prelude.{ℕ, ◌+◌, Bool, ◌&&◌, List, leb, eqb, Some, None, Result, Ok, Err}
+use Rattle.std.specs.Prelude.{ℕ, ◌+◌, Bool, ◌&&◌, List, leb, eqb, length, Some, None, Result, Ok, Err}
 use Rattle.std.specs.declared.option.Option as rust
 use Rattle.std.proofs.Math.Option.{Option, none, some}
 use Rattle.packet.specs.ItemTypes.{binary_kind, offset_kind, length_kind, location_kind, eof_kind}
-use Rattle.packet.specs.Items.{count_of}
-use Rattle.packet.specs.Packet.{head_length, packet_items}
-use Rattle.packet.specs.Answers.{Found, find_in, look_of}
+use Rattle.refusals.specs.declared.Refusal.{Refusal}
+use Rattle.packet.specs.Items.{Item, count_of}
+use Rattle.packet.specs.Packet as judged
+use Rattle.packet.specs.Packet.{head_length, Judged, packet_items}
+use Rattle.packet.specs.Answers.{Found, find_in}
 use Rattle.packet.specs.declared.reading.Look.{Look}
 use Rattle.transfer.specs.Fragment.{Form, good, bad}
 use Rattle.transfer.specs.Transfer.{Verdict, accepted, refused}
@@ -13,24 +15,44 @@ use Rattle.transfer.specs.declared.parts.Parts.{Parts}
 use Rattle.transfer.specs.declared.fragment.Fragment.{Fragment}
 use Rattle.transfer.specs.declared.judging.Accepted as code
 
--- the parts of a packet in which Locations have been looked for: one look for each other kind
-abbrev pub parts_with : Look → List ℕ → Parts
-parts_with locations bytes =
+-- the parts of a packet with these items
+abbrev pub parts_in : List Item → Parts
+parts_in items =
     record {
-      all = locations.all;
-      locations = locations.count;
-      offsets = count_of offset_kind (packet_items bytes);
-      binaries = count_of binary_kind (packet_items bytes);
-      lengths = count_of length_kind (packet_items bytes);
-      ends = count_of eof_kind (packet_items bytes);
-      location = locations.first;
-      offset = find_in head_length offset_kind (packet_items bytes);
-      binary = find_in head_length binary_kind (packet_items bytes);
-      length = find_in head_length length_kind (packet_items bytes);
+      all = length items;
+      locations = count_of location_kind items;
+      offsets = count_of offset_kind items;
+      binaries = count_of binary_kind items;
+      lengths = count_of length_kind items;
+      ends = count_of eof_kind items;
+      location = find_in head_length location_kind items;
+      offset = find_in head_length offset_kind items;
+      binary = find_in head_length binary_kind items;
+      length = find_in head_length length_kind items;
     }
 
 abbrev pub parts_of : List ℕ → Parts
-parts_of bytes = parts_with (look_of location_kind bytes) bytes
+parts_of bytes = parts_in (packet_items bytes)
+
+-- those of a packet in which Locations have been looked for: one look for each other kind
+abbrev pub parts_beside : Look → List Item → Parts
+parts_beside locations items =
+    record {
+      all = locations.all;
+      locations = locations.count;
+      offsets = count_of offset_kind items;
+      binaries = count_of binary_kind items;
+      lengths = count_of length_kind items;
+      ends = count_of eof_kind items;
+      location = locations.first;
+      offset = find_in head_length offset_kind items;
+      binary = find_in head_length binary_kind items;
+      length = find_in head_length length_kind items;
+    }
+
+unfoldable pub parts_with : Look → Judged → Result Parts Refusal
+parts_with locations (judged.packet p) = Ok (parts_beside locations p.items)
+parts_with locations (judged.refused r) = Err r
 
 -- the items are right by their counts: of the parts of a packet this is Fragment's `right_items`
 unfoldable pub right_parts : Parts → Bool
@@ -53,7 +75,7 @@ as_form (good offset declared last) = Some (record { offset = offset; declared =
 as_form bad = None
 
 -- the verdict on a packet, with the place of its Binary
-abbrev pub as_verdict : Found → Verdict → Result code.Accepted ℕ
+abbrev pub as_verdict : Found → Verdict → Result code.Accepted Refusal
 as_verdict binary (accepted offset next declared last) =
     Ok (record { binary = binary; offset = offset; next = next; declared = declared; last = last })
-as_verdict binary (refused n) = Err n
+as_verdict binary (refused r) = Err r

@@ -1,6 +1,7 @@
 -- 01, File fragments: a transfer, how it starts and what a fragment packet does to it and to the lent file buffer.
-use Rattle.std.specs.Prelude.{ℕ, ◌+◌, ◌≡◌, Bool, false, cond, not, ◌&&◌, ◌||◌, List, [], ltb, eqb, length, Some, None}
+use Rattle.std.specs.Prelude.{ℕ, ◌+◌, ◌≡◌, Bool, false, cond, not, ◌&&◌, ◌||◌, List, [], ltb, eqb, length, Some, None, Ok, Err}
 use Rattle.refusals.specs.Numbers.{other_opcode, other_location, wrong_offset, past_length, early_end, bad_fragment}
+use Rattle.refusals.specs.declared.Refusal.{Refusal}
 use Rattle.slices.specs.FixedBytes.{fixed_of, shown}
 use Rattle.slices.specs.Put.{put_at}
 use Rattle.slices.specs.Same.{same_bytes}
@@ -11,7 +12,6 @@ use Rattle.packet.specs.Packet as judged
 use Rattle.packet.specs.Packet.{Judged, packet_of, packet_items}
 use Rattle.transfer.specs.Fragment.{Declared, Form, good, bad, form_of}
 use Rattle.transfer.specs.declared.state.Transfer.{Transfer}
-use Rattle.transfer.specs.declared.taking.Answer.TheVariants as answer
 use Rattle.transfer.specs.declared.taking.Outcome.{Outcome}
 
 -- 01, File fragments (opcode 0b)
@@ -30,15 +30,15 @@ fresh_transfer location =
     }
 
 -- 01, Refusal numbers: a refusal returns its number, the transfer stays as it was
-abbrev pub refused_with : Transfer → ℕ → Outcome
-refused_with transfer number = record { transfer = transfer; answer = answer.Refused number }
+abbrev pub refused_with : Transfer → Refusal → Outcome
+refused_with transfer r = record { transfer = transfer; answer = Err r }
 
 -- 01, Refusal numbers, 20: a location has a bad form. There is no transfer yet, so a refused start gives one of the empty
 -- location, which no fragment has.
 unfoldable pub start_of : List ℕ → Outcome
 start_of location =
     cond (valid_location location)
-    (record { transfer = fresh_transfer location; answer = answer.Accepted })
+    (record { transfer = fresh_transfer location; answer = Ok tt })
     (refused_with (fresh_transfer []) bad_fragment)
 
 -- the location of a transfer: as many of its location bytes as their length says
@@ -73,7 +73,7 @@ goes_on transfer offset = not transfer.complete && eqb offset transfer.next
 -- refused by a number
 pub data Verdict : Type 0 where
   accepted : (offset next : ℕ) (declared : Declared) (last : Bool) → Verdict
-  refused : ℕ → Verdict
+  refused : Refusal → Verdict
 
 -- 01, Refusal numbers: 18, then 19
 unfoldable pub judge_end : ℕ → ℕ → ℕ → Declared → Bool → Verdict
@@ -112,7 +112,7 @@ advanced transfer next declared last =
 unfoldable pub outcome_by : Transfer → Verdict → Outcome
 outcome_by transfer (refused number) = refused_with transfer number
 outcome_by transfer (accepted offset next declared last) =
-    record { transfer = advanced transfer next declared last; answer = answer.Accepted }
+    record { transfer = advanced transfer next declared last; answer = Ok tt }
 
 -- 01, File fragments: an accepted fragment writes its bytes at its offset and no others
 unfoldable pub file_by : List ℕ → List ℕ → Verdict → List ℕ

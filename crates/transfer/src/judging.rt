@@ -8,8 +8,8 @@ ghost use Rattle.transfer.specs.Steps.{parts_of, as_verdict};
 use crate::fragment::{Candidate, Fragment};
 use crate::parts::find_parts;
 use crate::state::Transfer;
-use packet::{Item, LOCATION_KIND, Reading};
-use refusals::{BAD_FRAGMENT, EARLY_END, OTHER_LOCATION, OTHER_OPCODE, PAST_LENGTH, WRONG_OFFSET};
+use packet::{Item, LOCATION_KIND, look_for};
+use refusals::Refusal;
 
 // The opcode of a fragment packet. A number, not an enum: a packet may have any opcode.
 const FRAGMENT: u8 = 0x0b;
@@ -27,33 +27,34 @@ pub(crate) struct Accepted {
 
 // Tests the packet and its opcode, then its form as a fragment. `room` is the file buffer's length.
 #[tactic(auto, using(crate::proofs::JudgeLaws::read), unfolding(packet::specs::Packet::packet_items))]
-pub(crate) fn judge(transfer: Transfer, packet: &[u8], room: usize) -> Result<Accepted, u8>
+pub(crate) fn judge(transfer: Transfer, packet: &[u8], room: usize) -> Result<Accepted, Refusal>
     ensures { result ≡ as_verdict (parts_of packet.now).binary (verdict_of transfer room (packet_of packet.now)) }
 {
-    let locations = packet::look_for(packet, LOCATION_KIND);
-    match locations.reading {
-        Reading::Refused(number) => Err(number),
-        Reading::Packet { opcode, .. } if opcode != FRAGMENT => Err(OTHER_OPCODE),
-        Reading::Packet { .. } => {
-            let parts = find_parts(packet, locations);
-            judge_form(transfer, Candidate { packet, parts }, room)
-        }
+    let locations = look_for(packet, LOCATION_KIND)?;
+    if locations.head.opcode != FRAGMENT {
+        return Err(Refusal::OtherOpcode);
     }
+    let parts = find_parts(packet, locations)?;
+    judge_form(transfer, Candidate { packet, parts }, room)
 }
 
 // Tests the form of the candidate, then the fragment against the transfer: location, offset, then
 // where it ends.
 #[tactic(auto, using(crate::proofs::PartLaws::of_parts, crate::proofs::StepLaws::form_told), unfolding(crate::specs::Transfer::judge_form))]
-fn judge_form(transfer: Transfer, candidate: Candidate<'_>, room: usize) -> Result<Accepted, u8>
+fn judge_form(
+    transfer: Transfer,
+    candidate: Candidate<'_>,
+    room: usize,
+) -> Result<Accepted, Refusal>
     ensures { result ≡ as_verdict (parts_of candidate.entry.packet.now).binary (judge_form transfer room (packet_items candidate.entry.packet.now) (form_of (packet_items candidate.entry.packet.now))) }
 {
     let parts = candidate.parts;
-    let fragment = candidate.form().ok_or(BAD_FRAGMENT)?;
+    let fragment = candidate.form().ok_or(Refusal::BadFragment)?;
     if !transfer.is_of(candidate.value(parts.location)) {
-        return Err(OTHER_LOCATION);
+        return Err(Refusal::OtherLocation);
     }
     if !transfer.goes_on(fragment.offset) {
-        return Err(WRONG_OFFSET);
+        return Err(Refusal::WrongOffset);
     }
     let count = candidate.value(parts.binary).len();
     let known = fragment.declared.or(transfer.declared);
@@ -69,17 +70,17 @@ fn judge_end(
     binary: Option<Item>,
     count: usize,
     declared: Option<usize>,
-) -> Result<Accepted, u8>
+) -> Result<Accepted, Refusal>
     ensures { result ≡ as_verdict binary (judge_end room fragment.offset count declared fragment.last) }
 {
     let offset = fragment.offset;
     if is_long(room, offset, count, declared) {
-        return Err(PAST_LENGTH);
+        return Err(Refusal::PastLength);
     }
     let next = offset + count;
     let last = fragment.last;
     if ends_early(declared, last, next) {
-        return Err(EARLY_END);
+        return Err(Refusal::EarlyEnd);
     }
     Ok(Accepted {
         binary,

@@ -8,4 +8,4 @@ mod state;
 mod taking;
 
 pub use state::Transfer;
-pub use taking::{Answer, Outcome, start, take};
+pub use taking::{Outcome, start, take};

@@ -1,8 +1,10 @@
 // What a packet's items are to a fragment: one look at the packet for each kind that a fragment has.
 ghost use Rattle.std.specs.Prelude.{◌≡◌};
+ghost use Rattle.packet.specs.Packet.{packet_of};
 ghost use Rattle.transfer.specs.Steps.{parts_with, right_parts};
 
 use packet::{BINARY_KIND, EOF_KIND, Item, LENGTH_KIND, Look, OFFSET_KIND, look_for};
+use refusals::Refusal;
 
 // How many items each fragment has: Location, Offset, Binary.
 const REQUIRED_ITEMS: usize = 3;
@@ -23,14 +25,14 @@ pub(crate) struct Parts {
 }
 
 // The parts of a packet in which Locations have been looked for: four looks more.
-pub(crate) fn find_parts(packet: &[u8], locations: Look) -> Parts
-    ensures { result ≡ parts_with locations packet.now }
+pub(crate) fn find_parts(packet: &[u8], locations: Look) -> Result<Parts, Refusal>
+    ensures { result ≡ parts_with locations (packet_of packet.now) }
 {
-    let offsets = look_for(packet, OFFSET_KIND);
-    let binaries = look_for(packet, BINARY_KIND);
-    let lengths = look_for(packet, LENGTH_KIND);
-    let ends = look_for(packet, EOF_KIND);
-    Parts {
+    let offsets = look_for(packet, OFFSET_KIND)?;
+    let binaries = look_for(packet, BINARY_KIND)?;
+    let lengths = look_for(packet, LENGTH_KIND)?;
+    let ends = look_for(packet, EOF_KIND)?;
+    Ok(Parts {
         all: locations.all,
         locations: locations.count,
         offsets: offsets.count,
@@ -41,7 +43,7 @@ pub(crate) fn find_parts(packet: &[u8], locations: Look) -> Parts
         offset: offsets.first,
         binary: binaries.first,
         length: lengths.first,
-    }
+    })
 }
 
 // Whether the items are one Location, one Offset, one Binary, at most one Length and at most one

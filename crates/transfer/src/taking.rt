@@ -4,19 +4,13 @@ ghost use Rattle.transfer.specs.Transfer.{refused_with, start_of, Takes};
 
 use crate::judging::judge;
 use crate::state::Transfer;
-use refusals::BAD_FRAGMENT;
-
-#[derive(Clone, Copy)]
-pub enum Answer {
-    Accepted,
-    Refused(u8),
-}
+use refusals::Refusal;
 
 // The transfer after a call, and what the call answers.
 #[derive(Clone, Copy)]
 pub struct Outcome {
     pub transfer: Transfer,
-    pub answer: Answer,
+    pub answer: Result<(), Refusal>,
 }
 
 // Starts a transfer of the file at `location`: refusal 20 for a location that is not valid, with a
@@ -26,11 +20,11 @@ pub fn start(location: &[u8]) -> Outcome
     ensures { result ≡ start_of location.now }
 {
     if !packet::valid_location(location) {
-        return refused(Transfer::fresh(b""), BAD_FRAGMENT);
+        return refused(Transfer::fresh(b""), Refusal::BadFragment);
     }
     Outcome {
         transfer: Transfer::fresh(location),
-        answer: Answer::Accepted,
+        answer: Ok(()),
     }
 }
 
@@ -46,18 +40,18 @@ pub fn take(transfer: Transfer, packet: &[u8], file: &mut [u8]) -> Outcome
             slices::put(file, fragment.offset, bytes);
             Outcome {
                 transfer: transfer.advanced(fragment.next, fragment.declared, fragment.last),
-                answer: Answer::Accepted,
+                answer: Ok(()),
             }
         }
-        Err(number) => refused(transfer, number),
+        Err(refusal) => refused(transfer, refusal),
     }
 }
 
-fn refused(transfer: Transfer, number: u8) -> Outcome
-    ensures { result ≡ refused_with transfer number }
+fn refused(transfer: Transfer, refusal: Refusal) -> Outcome
+    ensures { result ≡ refused_with transfer refusal }
 {
     Outcome {
         transfer,
-        answer: Answer::Refused(number),
+        answer: Err(refusal),
     }
 }

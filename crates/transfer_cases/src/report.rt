@@ -1,6 +1,6 @@
 // Outcomes and lent buffers as text.
 use cases::{line, print};
-use transfer::{Answer, Outcome};
+use transfer::Outcome;
 
 // How many bytes of a long buffer are shown, its last ones.
 const SHOWN: usize = 10;
@@ -9,8 +9,8 @@ const SHOWN: usize = 10;
 pub(crate) fn show(rt: &impl Print, line: &[u8], outcome: Outcome) {
     line::label(rt, line);
     match outcome.answer {
-        Answer::Accepted => print::text(rt, b": accepted"),
-        Answer::Refused(refusal) => print::number(rt, b": refused ", refusal as u64),
+        Ok(()) => print::text(rt, b": accepted"),
+        Err(refusal) => print::number(rt, b": refused ", u64::from(refusal.number())),
     }
     let transfer = outcome.transfer;
     print::number(rt, b", next ", transfer.next as u64);

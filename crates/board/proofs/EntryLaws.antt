@@ -21,7 +21,9 @@ use Rattle.rows.proofs.NameLaws.{in_used, empty_unused, used_first}
 use Rattle.rows.proofs.EntryLaws.{Named, showing_names}
 use Rattle.board.specs.WatchList.{Good, may_join, is_whole, names_from, watch_names}
 use Rattle.board.specs.Reading.{Verdict, refused, end_mark, update, verdict_of, if_watched, reading_of, refused_with, updated, applied, read_board}
-use Rattle.board.specs.declared.reading.Answer.TheVariants.{Updated, EndMark}
+use Rattle.std.specs.Prelude.{Ok}
+use Rattle.refusals.specs.declared.Refusal.{Refusal}
+use Rattle.board.specs.declared.reading.Done.TheVariants.{Updated, EndMark}
 use Rattle.board.proofs.NameLaws.{Fits, none_empty, fresh_name, good_none, good_more}
 
 -- the rows of a board that shows entries have their names
@@ -72,7 +74,7 @@ there board (byte ∷ bytes) e =
 -- only a watched name is updated
 update_watched : (names : List (List ℕ)) (v : Verdict) (id : ℕ) (name : List ℕ) (value : ℤ) → if_watched names v ≡ update id name value → is_in name names ≡ true
 unfolding if_watched
-update_watched names (refused number) id name value e = impossible cc
+update_watched names (refused r) id name value e = impossible cc
 update_watched names (end_mark found) id name value e = impossible cc
 update_watched names (update found-id found number) id name value e = cases (is_in found names) refl e
   where
@@ -82,17 +84,17 @@ update_watched names (update found-id found number) id name value e = cases (is_
 
 module _ (board : Board) (bytes : List ℕ) where
   -- a refusal has its number and leaves the board as it was
-  pub read_refused : (number : ℕ) → reading_of (watched board) bytes ≡ refused number → read_board board bytes ≡ refused_with board number
+  pub read_refused : (r : Refusal) → reading_of (watched board) bytes ≡ refused r → read_board board bytes ≡ refused_with board r
   unfolding read_board applied
-  read_refused number e = rw e
+  read_refused r e = rw e
 
   -- an end mark leaves the board as it was
-  pub read_end : (id : ℕ) → reading_of (watched board) bytes ≡ end_mark id → read_board board bytes ≡ record { board = board; answer = EndMark id }
+  pub read_end : (id : ℕ) → reading_of (watched board) bytes ≡ end_mark id → read_board board bytes ≡ record { board = board; answer = Ok (EndMark id) }
   unfolding read_board applied
   read_end id e = rw e
 
   -- an update is answered by the place of its name's row
-  pub read_update_law : (id : ℕ) (name : List ℕ) (value : ℤ) (place : ℕ) → reading_of (watched board) bytes ≡ update id name value → place_of name (row_names board) ≡ some place → read_board board bytes ≡ record { board = update_board place value board; answer = Updated place id }
+  pub read_update_law : (id : ℕ) (name : List ℕ) (value : ℤ) (place : ℕ) → reading_of (watched board) bytes ≡ update id name value → place_of name (row_names board) ≡ some place → read_board board bytes ≡ record { board = update_board place value board; answer = Ok (Updated place id) }
   unfolding read_board applied updated
   read_update_law id name value place e stands = rw (e, stands)
 

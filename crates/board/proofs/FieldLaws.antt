@@ -9,7 +9,7 @@ use lib.Dec.{leb, eqb}
 use lib.ListN.{length, take, drop, get_or, length-drop}
 use borrow.Author.Tests.{leb-true, lt-leb, le-leb, ne_eqb}
 use denote.Ref.{Bor}
-use Rattle.std.specs.Prelude.{Option, Some, None, option_map, MatchOption}
+use Rattle.std.specs.Prelude.{Option, Some, None, option_map, MatchOption, Result, Ok, Err, is_err}
 use Rattle.std.specs.List.{IsSplitAt}
 use Rattle.std.proofs.lemmas.List.{nil_from_length}
 use Rattle.slices.proofs.Impossible.{impossible}
@@ -18,7 +18,7 @@ use Rattle.slices.proofs.TestLaws.{both}
 use Rattle.rows.specs.Rows.{row_count, board_of}
 use Rattle.board.specs.WatchList.{Good, name_tag, may_join, is_whole, names_from, watch_names, watch_board, accepted_with, as_watched}
 use Rattle.board.specs.ListSteps.{field_of}
-use Rattle.board.specs.declared.list.Listed.TheVariants.{Accepted, Refused}
+use Rattle.refusals.specs.declared.Refusal.{Refusal}
 use Rattle.board.specs.declared.list.Watched.{Watched}
 use Rattle.rows.specs.declared.Board.{Board}
 use Rattle.board.proofs.NameLaws.{good_more}
@@ -123,14 +123,25 @@ module _ {fields : List ℕ} {board : Board} {rest : List ℕ} (r : Reached fiel
     of_names : watched ≡ watch_board row_count (board_of row_count r.names) name
     of_names = rw r.is at answered
 
+    is_accepted : false ≡ is_err watched.answer → watched.answer ≡ Ok tt
+    is_accepted accepted = cases watched.answer accepted
+      where
+        cases : (answer : Result Unit Refusal) → false ≡ is_err answer → answer ≡ Ok tt
+        cases (Ok done) e = refl
+        cases (Err refusal) e = impossible cc
+
     -- a name that is refused refuses the list too
-    pub reached_refused : {number : ℕ} → watched.answer ≡ Refused number → watch_names row_count fields ≡ none
-    reached_refused {number} refused = sym r.still ∙ next ∙ rw (refused_stays r.names name number r.good (rw of_names at refused))
+    pub reached_refused : true ≡ is_err watched.answer → watch_names row_count fields ≡ none
+    reached_refused refused = cases watched.answer refl refused
+      where
+        cases : (answer : Result Unit Refusal) → watched.answer ≡ answer → true ≡ is_err answer → watch_names row_count fields ≡ none
+        cases (Ok done) e refused = impossible cc
+        cases (Err refusal) e refused = sym r.still ∙ next ∙ rw (refused_stays r.names name refusal r.good (rw of_names at e))
 
     -- one that is accepted is the next of the names
-    pub reached_next : watched.answer ≡ Accepted → Reached fields watched.board behind
+    pub reached_next : false ≡ is_err watched.answer → Reached fields watched.board behind
     reached_next accepted =
-        let joins = accepted_joins r.names name r.good (rw of_names at accepted) in
+        let joins = accepted_joins r.names name r.good (rw of_names at (is_accepted accepted)) in
         let joined = sym next ∙ r.still in
         record {
           names = r.names ++ (name ∷ []);

@@ -7,7 +7,7 @@ use mathlib.Core.Option.{Option, some, none}
 use Prim.Native.Nat.{ℕ}
 use lib.Dec.{eqb, ltb}
 use lib.IntN.{ℤ}
-use Rattle.std.specs.Prelude.{Some, None}
+use Rattle.std.specs.Prelude.{Some, None, Ok, Err}
 use Rattle.value.specs.Value.{value_of, as_value}
 use Rattle.value.proofs.ValueLaws.{value_number, value_bad}
 use Rattle.board.specs.declared.reading.Reading.{Reading}
@@ -15,9 +15,9 @@ use Rattle.refusals.specs.Numbers.{other_opcode, bad_name, bad_value, not_watche
 use Rattle.packet.specs.ItemTypes.{name_kind, eof_kind}
 use Rattle.packet.specs.Names.{between, valid_name}
 use Rattle.packet.specs.Items.{Item, count_of, first_of, value_bytes, behind_of}
-use Rattle.packet.specs.Packet.{Judged, packet_of, judged_items, packet_items}
+use Rattle.packet.specs.Packet.{head_length, Judged, packet_of, judged_items, packet_items}
 use Rattle.packet.specs.Packet as judged
-use Rattle.packet.specs.Answers.{Found, reading_of, item_at, look_of}
+use Rattle.packet.specs.Answers.{Found, find_in, behind_in, item_at, look_at, look_by}
 use Rattle.packet.specs.declared.items.Item as code
 use Rattle.packet.specs.declared.reading.Look.{Look}
 use Rattle.packet.proofs.FoundLaws.{find_reads, behind_found_reads}
@@ -27,7 +27,7 @@ use Rattle.rows.specs.declared.Board.{Board}
 use Rattle.rows.proofs.NameLaws.{in_used}
 use Rattle.board.specs.Reading.{update_opcode, refused, end_mark, update, value_of_item, with_value, with_name, update_of, verdict_of_items, verdict_of, if_watched, updated, applied, refused_with}
 use Rattle.board.specs.ReadingSteps.{task_of_items, task_by, task_of, verdict_by, read_update}
-use Rattle.board.specs.declared.reading.Task.TheVariants.{Reject, Finish, Apply}
+use Rattle.board.specs.declared.reading.Task.TheVariants.{Finish, Apply}
 use Rattle.board.proofs.NameLaws.{valid_fit}
 
 -- a look that found the Names of the items
@@ -37,31 +37,31 @@ record Finds (bytes : List ℕ) (names : Look) (items : List Item) : Type 0 wher
   value : item_at bytes names.behind ≡ behind_of name_kind items
 
 -- by it the verdict is the one that the task comes to
-module _ (bytes : List ℕ) (names : Look) where
-  items_by_task : (id : ℕ) (items : List Item) → Finds bytes names items → verdict_of_items id items ≡ verdict_by bytes (task_of_items id names (count_of eof_kind items))
+module _ (bytes : List ℕ) where
+  items_by_task : (names : Look) (items : List Item) → Finds bytes names items → verdict_of_items names.head.id items ≡ verdict_by bytes (task_of_items names (count_of eof_kind items))
   unfolding verdict_of_items task_of_items update_of
-  items_by_task id items found =
+  items_by_task names items found =
       rw found.number (cases (eqb (count_of name_kind items) 0 && ltb 0 (count_of eof_kind items)) (eqb (count_of name_kind items) 1))
     where
-      cases : (t u : Bool) → cond t (end_mark id) (cond u (update_of id items) (refused bad_name)) ≡ verdict_by bytes (cond t (Finish id) (cond u (Apply id names.first names.behind) (Reject bad_name)))
+      cases : (t u : Bool) → cond t (end_mark names.head.id) (cond u (update_of names.head.id items) (refused bad_name)) ≡ verdict_by bytes (cond t (Ok (Finish names.head.id)) (cond u (Ok (Apply names.head.id names.first names.behind)) (Err bad_name)))
       cases true u = refl
       cases false true = rw (found.name, found.value)
       cases false false = refl
 
-  judged_by_task : (j : Judged) → Finds bytes names (judged_items j) → verdict_of j ≡ verdict_by bytes (task_by (reading_of j) names (count_of eof_kind (judged_items j)))
-  unfolding verdict_of reading_of judged_items
-  judged_by_task (judged.refused number) found = refl
-  judged_by_task (judged.packet p) found = cases (eqb p.opcode update_opcode)
+  judged_by_task : (j : Judged) → item_at bytes (find_in head_length name_kind (judged_items j)) ≡ first_of name_kind (judged_items j)
+      → item_at bytes (behind_in head_length name_kind (judged_items j)) ≡ behind_of name_kind (judged_items j)
+      → verdict_of j ≡ verdict_by bytes (task_by (look_by name_kind j) (count_of eof_kind (judged_items j)))
+  unfolding verdict_of look_by judged_items
+  judged_by_task (judged.refused r) name value = refl
+  judged_by_task (judged.packet p) name value = cases (eqb p.opcode update_opcode)
     where
-      cases : (t : Bool) → cond t (verdict_of_items p.id p.items) (refused other_opcode) ≡ verdict_by bytes (cond t (task_of_items p.id names (count_of eof_kind p.items)) (Reject other_opcode))
-      cases true = items_by_task p.id p.items found
+      cases : (t : Bool) → cond t (verdict_of_items p.id p.items) (refused other_opcode) ≡ verdict_by bytes (cond t (task_of_items (look_at name_kind p) (count_of eof_kind p.items)) (Err other_opcode))
+      cases true = items_by_task (look_at name_kind p) p.items (record { number = refl; name = name; value = value })
       cases false = refl
 
 pub by_task : (bytes : List ℕ) → verdict_of (packet_of bytes) ≡ verdict_by bytes (task_of bytes)
 unfolding packet_items
-by_task bytes =
-    judged_by_task bytes (look_of name_kind bytes) (packet_of bytes)
-    (record { number = refl; name = (find_reads bytes name_kind).same; value = (behind_found_reads bytes name_kind).same })
+by_task bytes = judged_by_task bytes (packet_of bytes) (find_reads bytes name_kind).same (behind_found_reads bytes name_kind).same
 
 -- without a Name there are no bytes, which are no valid name
 by_name : (id : ℕ) (name : Option Item) (value : Option ℤ) → with_name id name value ≡ cond (valid_name (value_bytes name)) (with_value id (value_bytes name) value) (refused bad_name)

@@ -9,13 +9,13 @@ use lib.Dec.{ltb}
 use lib.ListN.{length, replicate, length-append, length-map}
 use borrow.Author.Tests.{le-ltb}
 use Rattle.std.specs.Prelude as rust
-use Rattle.std.specs.Prelude.{Some, None}
+use Rattle.std.specs.Prelude.{Some, None, Ok, Err}
 use Rattle.packet.specs.Names.{valid_name}
 use Rattle.slices.proofs.Impossible.{impossible}
 use Rattle.rows.specs.Names.{place_of, is_some, is_in}
 use Rattle.rows.specs.Rows.{row_count, row_name, row_names, watched, fresh_row, change_at, put_row, board_of, as_place}
 use Rattle.board.specs.WatchList.{Good, may_join, watch_board, join_board, accepted_with, refused_with}
-use Rattle.board.specs.declared.list.Listed.TheVariants.{Accepted, Refused}
+use Rattle.refusals.specs.declared.Refusal.{Refusal}
 use Rattle.rows.specs.declared.Row.{Row}
 use Rattle.rows.specs.declared.Board.{Board}
 use Rattle.rows.proofs.NameLaws.{place_empty, in_used, room}
@@ -57,22 +57,22 @@ unfolding watch_board
 watch_refused {limit} names name o h = rw (watched_names limit names (good_fits names o.valid), h)
 
 -- so the answer tells which it was
-pub accepted_joins : {limit : ℕ} (names : List (List ℕ)) (name : List ℕ) → Good limit names → (watch_board limit (board_of limit names) name).answer ≡ Accepted → may_join limit names name ≡ true
+pub accepted_joins : {limit : ℕ} (names : List (List ℕ)) (name : List ℕ) → Good limit names → (watch_board limit (board_of limit names) name).answer ≡ Ok tt → may_join limit names name ≡ true
 accepted_joins {limit} names name o e = cases (may_join limit names name) refl
   where
     cases : (t : Bool) → may_join limit names name ≡ t → t ≡ true
     cases true h = refl
     cases false h =
-        let r = watch_refused names name o h in
+        let stays = watch_refused names name o h in
         impossible cc
 
-pub refused_stays : {limit : ℕ} (names : List (List ℕ)) (name : List ℕ) (number : ℕ) → Good limit names → (watch_board limit (board_of limit names) name).answer ≡ Refused number → may_join limit names name ≡ false
-refused_stays {limit} names name number o e = cases (may_join limit names name) refl
+pub refused_stays : {limit : ℕ} (names : List (List ℕ)) (name : List ℕ) (r : Refusal) → Good limit names → (watch_board limit (board_of limit names) name).answer ≡ Err r → may_join limit names name ≡ false
+refused_stays {limit} names name r o e = cases (may_join limit names name) refl
   where
     cases : (t : Bool) → may_join limit names name ≡ t → t ≡ false
     cases false h = refl
     cases true h =
-        let r = watch_more names name o h in
+        let joined = watch_more names name o h in
         impossible cc
 
 -- what the search for a name answered

@@ -1,8 +1,9 @@
 -- 01, Items and packets: the board's reading of a packet. All but the last part speaks of the watched names and the bytes
 -- alone.
-use Rattle.std.specs.Prelude.{ℕ, cond, ◌&&◌, List, eqb, ltb, ℤ}
+use Rattle.std.specs.Prelude.{ℕ, cond, ◌&&◌, List, eqb, ltb, ℤ, Ok, Err}
 use Rattle.std.proofs.Math.Option.{Option, some, none}
 use Rattle.refusals.specs.Numbers.{other_opcode, bad_name, bad_value, not_watched}
+use Rattle.refusals.specs.declared.Refusal.{Refusal}
 use Rattle.packet.specs.Names.{valid_name}
 use Rattle.packet.specs.ItemTypes.{name_kind, eof_kind}
 use Rattle.packet.specs.Items.{Item, count_of, first_of, behind_of}
@@ -12,7 +13,7 @@ use Rattle.rows.specs.Names.{place_of, is_in}
 use Rattle.value.specs.Value.{value_of}
 use Rattle.rows.specs.Rows.{row_names, watched, update_board}
 use Rattle.rows.specs.declared.Board.{Board}
-use Rattle.board.specs.declared.reading.Answer.TheVariants as answer
+use Rattle.board.specs.declared.reading.Done.TheVariants as done
 use Rattle.board.specs.declared.reading.Reading.{Reading}
 
 -- 01, Items and packets: the board reads opcode 03
@@ -21,7 +22,7 @@ update_opcode = 0x03
 
 -- what a packet is to the board: refused, or with its request id an end mark or an update of a name
 pub data Verdict : Type 0 where
-  refused : ℕ → Verdict
+  refused : Refusal → Verdict
   end_mark : ℕ → Verdict
   update : ℕ → List ℕ → ℤ → Verdict
 
@@ -53,12 +54,12 @@ verdict_of_items id items =
 
 -- 01, Refusal numbers: 9 and 10 as the packet is judged, then 11, an opcode that this reader does not read
 unfoldable pub verdict_of : Judged → Verdict
-verdict_of (judged.refused number) = refused number
+verdict_of (judged.refused r) = refused r
 verdict_of (judged.packet p) = cond (eqb p.opcode update_opcode) (verdict_of_items p.id p.items) (refused other_opcode)
 
 -- 01, Refusal numbers, 14: the name is not watched. It comes last in the order.
 unfoldable pub if_watched : List (List ℕ) → Verdict → Verdict
-if_watched names (refused number) = refused number
+if_watched names (refused r) = refused r
 if_watched names (end_mark id) = end_mark id
 if_watched names (update id name value) = cond (is_in name names) (update id name value) (refused not_watched)
 
@@ -67,18 +68,18 @@ unfoldable pub reading_of : List (List ℕ) → List ℕ → Verdict
 reading_of names bytes = if_watched names (verdict_of (packet_of bytes))
 
 -- 01, Refusal numbers: a refusal returns its number, the board stays as it was
-abbrev pub refused_with : Board → ℕ → Reading
-refused_with board number = record { board = board; answer = answer.Refused number }
+abbrev pub refused_with : Board → Refusal → Reading
+refused_with board r = record { board = board; answer = Err r }
 
 -- 01, The board: an accepted update makes the row current with age 0
 unfoldable pub updated : Board → ℕ → ℤ → Option ℕ → Reading
-updated board id value (some row) = record { board = update_board row value board; answer = answer.Updated row id }
+updated board id value (some row) = record { board = update_board row value board; answer = Ok (done.Updated row id) }
 updated board id value none = refused_with board not_watched
 
 -- what becomes of the board. At an end mark nothing changes.
 unfoldable pub applied : Board → Verdict → Reading
-applied board (refused number) = refused_with board number
-applied board (end_mark id) = record { board = board; answer = answer.EndMark id }
+applied board (refused r) = refused_with board r
+applied board (end_mark id) = record { board = board; answer = Ok (done.EndMark id) }
 applied board (update id name value) = updated board id value (place_of name (row_names board))
 
 -- the board after a packet, and the answer

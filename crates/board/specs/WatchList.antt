@@ -1,6 +1,6 @@
 -- 01, The board: the watch list is stored as tagged fields: one-byte tag, two-byte length (high byte first), value. Tag 01 is a name. At
 -- most so many names as there are rows, 0 allowed, no name twice; a bad name, another tag or a cut field is refusal 15 too.
-use Rattle.std.specs.Prelude.{ℕ, zero, suc, ◌≤◌, ◌≡◌, Bool, true, cond, not, ◌&&◌, List, [], ◌∷◌, ◌++◌, eqb, leb, ltb, length, take}
+use Rattle.std.specs.Prelude.{ℕ, zero, suc, ◌≤◌, ◌≡◌, Bool, true, cond, not, ◌&&◌, List, [], ◌∷◌, ◌++◌, eqb, leb, ltb, length, take, Ok, Err}
 use Rattle.std.proofs.Math.Option.{Option, some, none}
 use Rattle.refusals.specs.Numbers.{bad_list}
 use Rattle.slices.specs.HighFirst.{pair_of, high_first}
@@ -8,7 +8,6 @@ use Rattle.packet.specs.Names.{valid_name}
 use Rattle.rows.specs.Names.{place_of, is_in}
 use Rattle.rows.specs.Rows.{row_names, watched, fresh_row, put_row, board_of}
 use Rattle.rows.specs.declared.Board.{Board}
-use Rattle.board.specs.declared.list.Listed.TheVariants.{Accepted, Refused}
 use Rattle.board.specs.declared.list.Watched.{Watched}
 
 -- whether a name may join the names before it: a valid name, none of them, and fewer than the limit before it
@@ -64,10 +63,10 @@ fields_of (name ∷ names) = name_field name ++ fields_of names
 
 -- how the code answers a watch list or a name that is refused
 abbrev pub refused_with : Board → Watched
-refused_with board = record { board = board; answer = Refused bad_list }
+refused_with board = record { board = board; answer = Err bad_list }
 
 abbrev pub accepted_with : Board → Watched
-accepted_with board = record { board = board; answer = Accepted }
+accepted_with board = record { board = board; answer = Ok tt }
 
 -- the answer to a watch list: the board of its names, and where it is refused a board that shows nothing of it
 abbrev pub as_watched : ℕ → Option (List (List ℕ)) → Watched

@@ -3,5 +3,5 @@
 mod list;
 mod reading;
 
-pub use list::{Listed, NAME_TAG, Watched, watch, watch_list};
-pub use reading::{Answer, Reading, read};
+pub use list::{NAME_TAG, Watched, watch, watch_list};
+pub use reading::{Done, Reading, read};

@@ -4,22 +4,17 @@ ghost use Rattle.rows.specs.Rows.{row_count};
 ghost use Rattle.board.specs.WatchList.{watch_board, watch_names, as_watched, refused_with};
 ghost use Rattle.board.specs.ListSteps.{field_of};
 
+use refusals::Refusal;
 use rows::{Board, find, fresh, fresh_row, put_row};
 
 // The tag of a name in a watch list.
 pub const NAME_TAG: u8 = 0x01;
 
-// Whether what was asked to be watched is watched.
-#[derive(Clone, Copy)]
-pub enum Listed {
-    Accepted,
-    Refused(u8),
-}
-
+// A board, and whether what it was asked to watch is watched.
 #[derive(Clone, Copy)]
 pub struct Watched {
     pub board: Board,
-    pub answer: Listed,
+    pub answer: Result<(), Refusal>,
 }
 
 // The board of a watch list. Where the list is refused the board shows nothing of it.
@@ -33,7 +28,7 @@ pub fn watch_list(fields: &[u8]) -> Watched
             return refused(fresh());
         };
         let watched = watch(board, name);
-        if let Listed::Refused(_) = watched.answer {
+        if watched.answer.is_err() {
             return refused(fresh());
         }
         board = watched.board;
@@ -41,7 +36,7 @@ pub fn watch_list(fields: &[u8]) -> Watched
     }
     Watched {
         board,
-        answer: Listed::Accepted,
+        answer: Ok(()),
     }
 }
 
@@ -60,7 +55,7 @@ pub fn watch(board: Board, name: &[u8]) -> Watched
     };
     Watched {
         board: put_row(board, unused, fresh_row(name)),
-        answer: Listed::Accepted,
+        answer: Ok(()),
     }
 }
 
@@ -69,7 +64,7 @@ fn refused(board: Board) -> Watched
 {
     Watched {
         board,
-        answer: Listed::Refused(refusals::BAD_LIST),
+        answer: Err(Refusal::BadList),
     }
 }
 

@@ -9,33 +9,33 @@ ghost use Rattle.rows.specs.Rows.{row_names};
 ghost use Rattle.board.specs.Reading.{read_board, refused_with, updated};
 ghost use Rattle.board.specs.ReadingSteps.{task_of, task_of_items, read_update};
 
-use packet::{EOF_KIND, Item, Look, NAME_KIND, look_for, valid_name, value_at};
+use packet::{EOF_KIND, Item, Look, NAME_KIND, count, look_for, valid_name, value_at};
+use refusals::Refusal;
 use rows::{Board, find, update};
 use value::read_value;
 
 // The opcode that the board reads.
 const UPDATE: u8 = 0x03;
 
-// What became of a packet: an update of the row at a place or an end mark, each with the request id,
-// or a refusal by number.
+// What became of a packet that was read: an update of the row at a place or an end mark, each with the
+// request id.
 #[derive(Clone, Copy)]
-pub enum Answer {
+pub enum Done {
     Updated { row: usize, id: u16 },
     EndMark { id: u16 },
-    Refused(u8),
 }
 
+// The board after a packet, and what became of the packet.
 #[derive(Clone, Copy)]
 pub struct Reading {
     pub board: Board,
-    pub answer: Answer,
+    pub answer: Result<Done, Refusal>,
 }
 
 // What a packet asks of the board, with its request id: an update comes with its Name and the item
 // behind it, neither of them judged yet.
 #[derive(Clone, Copy)]
 enum Task {
-    Reject(u8),
     Finish {
         id: u16,
     },
@@ -51,53 +51,44 @@ pub fn read(board: Board, packet: &[u8]) -> Reading
     ensures { result ≡ read_board board packet.now }
 {
     match judge(packet) {
-        Task::Reject(number) => refused(board, number),
-        Task::Finish { id } => Reading {
+        Ok(Task::Finish { id }) => Reading {
             board,
-            answer: Answer::EndMark { id },
+            answer: Ok(Done::EndMark { id }),
         },
-        Task::Apply { id, name, behind } => read_update(board, id, packet, name, behind),
+        Ok(Task::Apply { id, name, behind }) => read_update(board, id, packet, name, behind),
+        Err(refusal) => refused(board, refusal),
     }
 }
 
 // Tests the packet, its opcode and how many Names it has. One look answers all three.
-#[tactic(auto, unfolding(crate::specs::ReadingSteps::task_of_items))]
-fn judge(packet: &[u8]) -> Task
+fn judge(packet: &[u8]) -> Result<Task, Refusal>
     ensures { result ≡ task_of packet.now }
 {
-    let names = look_for(packet, NAME_KIND);
-    match names.reading {
-        packet::Reading::Refused(number) => Task::Reject(number),
-        packet::Reading::Packet { opcode, id } => {
-            if opcode == UPDATE {
-                judge_items(id, packet, names)
-            } else {
-                Task::Reject(refusals::OTHER_OPCODE)
-            }
-        }
+    let names = look_for(packet, NAME_KIND)?;
+    if names.head.opcode != UPDATE {
+        return Err(Refusal::OtherOpcode);
     }
+    judge_items(packet, names)
 }
 
 // What a packet asks by the Names that a look found in it. Only without a Name is there a second
 // look, for an EOF item.
 #[tactic(auto, unfolding(crate::specs::ReadingSteps::task_of_items))]
-fn judge_items(id: u16, packet: &[u8], names: Look) -> Task
-    ensures { result ≡ task_of_items id names (count_of eof_kind (packet_items packet.now)) }
+fn judge_items(packet: &[u8], names: Look) -> Result<Task, Refusal>
+    ensures { result ≡ task_of_items names (count_of eof_kind (packet_items packet.now)) }
 {
+    let id = names.head.id;
     if names.count == 1 {
-        return Task::Apply {
+        return Ok(Task::Apply {
             id,
             name: names.first,
             behind: names.behind,
-        };
+        });
     }
-    if names.count == 0 {
-        let ends = look_for(packet, EOF_KIND);
-        if 0 < ends.count {
-            return Task::Finish { id };
-        }
+    if names.count == 0 && 0 < count(packet, EOF_KIND) {
+        return Ok(Task::Finish { id });
     }
-    Task::Reject(refusals::BAD_NAME)
+    Err(Refusal::BadName)
 }
 
 // Reads the Name, then the value item right behind it, then the row.
@@ -112,13 +103,13 @@ fn read_update(
 {
     let name_bytes = value_at(packet, name);
     if !valid_name(name_bytes) {
-        return refused(board, refusals::BAD_NAME);
+        return refused(board, Refusal::BadName);
     }
     let Some(item) = behind else {
-        return refused(board, refusals::BAD_VALUE); // nothing behind the Name
+        return refused(board, Refusal::BadValue); // nothing behind the Name
     };
     let Some(value) = read_value(item.kind, value_at(packet, behind)) else {
-        return refused(board, refusals::BAD_VALUE);
+        return refused(board, Refusal::BadValue);
     };
     update_row(board, id, name_bytes, value)
 }
@@ -129,17 +120,17 @@ fn update_row(board: Board, id: u16, name: &[u8], value: i64) -> Reading
     ensures { result ≡ updated board id value (place_of name.now (row_names board)) }
 {
     let Some(row) = find(board, name) else {
-        return refused(board, refusals::NOT_WATCHED);
+        return refused(board, Refusal::NotWatched);
     };
     Reading {
         board: update(board, row, value),
-        answer: Answer::Updated { row, id },
+        answer: Ok(Done::Updated { row, id }),
     }
 }
 
-fn refused(board: Board, number: u8) -> Reading
-    ensures { result ≡ refused_with board number }
+fn refused(board: Board, refusal: Refusal) -> Reading
+    ensures { result ≡ refused_with board refusal }
 {
-    let answer = Answer::Refused(number);
+    let answer = Err(refusal);
     Reading { board, answer }
 }

@@ -6,14 +6,14 @@ use Rattle.board.specs.ReadingSteps.{read_update}
 use Rattle.board.proofs.ReadingLaws.{by_task}
 use Rattle.board.proofs.reading.read.Goals as goal
 
-pub returns-in-Reject : goal.returns-in-Reject
+pub returns-in-Ok-Finish : goal.returns-in-Ok-Finish
 unfolding read_board reading_of if_watched applied
-returns-in-Reject c = grind (arith, common_steps, by_task)
+returns-in-Ok-Finish c = grind (arith, common_steps, by_task)
 
-pub returns-in-Finish : goal.returns-in-Finish
-unfolding read_board reading_of if_watched applied
-returns-in-Finish c = grind (arith, common_steps, by_task)
-
-pub returns-in-Apply : goal.returns-in-Apply
+pub returns-in-Ok-Apply : goal.returns-in-Ok-Apply
 unfolding read_board reading_of read_update
-returns-in-Apply c = grind (arith, common_steps, by_task)
+returns-in-Ok-Apply c = grind (arith, common_steps, by_task)
+
+pub returns-in-Err : goal.returns-in-Err
+unfolding read_board reading_of if_watched applied
+returns-in-Err c = grind (arith, common_steps, by_task)

@@ -1,6 +1,7 @@
 // Packets as they are read.
 use cases::{line, print};
-use packet::{Item, Reading};
+use packet::{Head, Item};
+use refusals::Refusal;
 
 // A packet's opcode and id or the refusal, the number of its items and of its Names, the first Name,
 // what stands behind it, and the first EOF, by a function each. All are asked of a refused packet too.
@@ -16,25 +17,29 @@ pub(crate) fn show(rt: &impl Print, line: &[u8], packet: &[u8]) {
     show_places(rt, packet);
 }
 
-// What one look at a packet for a kind answers.
+// What one look at a packet for a kind answers. Of a refused packet it shows that it has no items.
 pub(crate) fn show_look(rt: &impl Print, line: &[u8], packet: &[u8], kind: u8) {
     line::label(rt, line);
     let look = packet::look_for(packet, kind);
-    show_reading(rt, look.reading);
-    print::number(rt, b", items ", look.all as u64);
-    print::number(rt, b", of the kind ", look.count as u64);
-    show_place(rt, b", first", look.first);
-    show_place(rt, b", behind", look.behind);
+    show_reading(rt, look.map(|look| look.head));
+    print::number(rt, b", items ", look.map_or(0, |look| look.all as u64));
+    print::number(
+        rt,
+        b", of the kind ",
+        look.map_or(0, |look| look.count as u64),
+    );
+    show_place(rt, b", first", look.map_or(None, |look| look.first));
+    show_place(rt, b", behind", look.map_or(None, |look| look.behind));
     print::text(rt, b"\n");
 }
 
-fn show_reading(rt: &impl Print, reading: Reading) {
+fn show_reading(rt: &impl Print, reading: Result<Head, Refusal>) {
     match reading {
-        Reading::Packet { opcode, id } => {
+        Ok(Head { opcode, id }) => {
             print::number(rt, b": opcode ", opcode as u64);
             print::number(rt, b" id ", id as u64);
         }
-        Reading::Refused(refusal) => print::number(rt, b": refused ", refusal as u64),
+        Err(refusal) => print::number(rt, b": refused ", refusal.number() as u64),
     }
 }
 

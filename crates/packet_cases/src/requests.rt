@@ -1,6 +1,6 @@
 // A request as it is written into three buffers, and the whole of each buffer after it.
 use cases::{line, print};
-use packet::Written;
+use refusals::Refusal;
 
 // Room for each request that is a case, for some of them, and for none.
 const ROOMY: usize = 18;
@@ -22,14 +22,14 @@ fn show_written(rt: &impl Print, line: &[u8], bytes: &[u8], out: &mut [u8]) {
     line::label(rt, line);
     let written = write(line::key(line), bytes, out);
     match written {
-        Written::Length(length) => print::number(rt, b": length ", length as u64),
-        Written::Refused(refusal) => print::number(rt, b": refused ", refusal as u64),
+        Ok(length) => print::number(rt, b": length ", length as u64),
+        Err(refusal) => print::number(rt, b": refused ", refusal.number() as u64),
     }
     print::bytes(rt, b" ", out, out.len());
     print::text(rt, b"\n");
 }
 
-fn write(key: u8, bytes: &[u8], out: &mut [u8]) -> Written {
+fn write(key: u8, bytes: &[u8], out: &mut [u8]) -> Result<usize, Refusal> {
     match key {
         b'g' => packet::property_get(0x1234, bytes, out),
         b'f' => packet::file_request(0xff01, bytes, None, out),

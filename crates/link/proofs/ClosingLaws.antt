@@ -1,17 +1,16 @@
 -- A frame at its closing flag, one law for each way through the code: what the tests on the way say of it settles the outcome.
 -- Nine bytes are room for its acknowledgement, of which at most three are escaped.
-use Rattle.std.proofs.Common.{◌≡◌, ℕ, Option, Some, ◌+◌, ◌-◌, ◌/◌, ◌%◌, ◌≤◌, Bool, true, false, cond, eqb, List, [], ◌∷◌, length, take, drop, sym, refl, ap, ◌∙◌, arith, eq-eqb, ne_eqb}
+use Rattle.std.proofs.Common.{◌≡◌, ℕ, Option, Some, None, Result, Ok, Err, ◌+◌, ◌-◌, ◌/◌, ◌%◌, ◌≤◌, Bool, true, false, cond, eqb, List, [], ◌∷◌, length, take, drop, refl, ap, ◌∙◌, arith, eq-eqb, ne_eqb}
+use Rattle.std.specs.Result.{result_unwrap_or}
 use Rattle.refusals.specs.Numbers.{unknown_type, loaded_acknowledgement}
-use Rattle.slices.proofs.Impossible.{impossible}
+use Rattle.refusals.specs.declared.Refusal.{Refusal}
 use Rattle.slices.specs.Each.{each}
 use Rattle.slices.specs.Put.{put_at}
 use Rattle.slices.specs.Written.{written, WritesAs}
-use Rattle.slices.specs.declared.Written as declared
 use Rattle.crc.specs.Crc.{link_start, crc_of}
 use Rattle.frame.specs.Stuffing.{stuff}
 use Rattle.frame.specs.Content.{data_type, acknowledgement_type, Read, frame, refused, no_place, content_of, judged}
-use Rattle.frame.specs.Answers.{read_answer}
-use Rattle.frame.specs.declared.content.FrameRead.TheVariants as answer
+use Rattle.frame.specs.Answers.{read_answer, frame_found, fault_at}
 use Rattle.frame.specs.Writing.{write_frame}
 use Rattle.frame.proofs.StuffLaws.{length_stuff}
 use Rattle.frame.proofs.ContentLaws.{answer_refused, answer_frame, payload_part, length_payload}
@@ -20,8 +19,7 @@ use Rattle.link.specs.declared.counts.Counts.{Counts}
 use Rattle.link.specs.declared.counts.Event.TheVariants as event
 use Rattle.link.specs.declared.receiver.Answer.TheVariants as says
 use Rattle.link.specs.declared.closing.Closed.{Closed}
-use Rattle.link.specs.declared.reader.Ended.{Ended}
-use Rattle.link.specs.declared.reader.Ended.TheVariants as ends
+use Rattle.frame.specs.declared.content.Fault.{Fault}
 use Rattle.link.specs.Counts.{count_of}
 use Rattle.link.specs.Closing.{reply_room, acknowledgement, repeats, Outcome, refused_frame, acknowledgement_frame, again_frame, new_frame, data_frame, read_outcome, frame_outcome, close_of}
 use Rattle.link.specs.Steps.{closed_by, ClosesAs, AcknowledgesAs}
@@ -50,20 +48,11 @@ acknowledgement_written room q h =
     ∙ content_room room (content_of acknowledgement_type q []) _ refl (omega (arith, fits))
 
 -- so the writer writes it whole
-module _ (q : ℕ) (reply : List ℕ) (answer : declared.Written) (exit : List ℕ) (h : reply_room ≤ length reply)
-    (w : WritesAs (write_frame (length reply) acknowledgement_type q []) reply answer exit) where
-  pub acknowledged : (n : ℕ) → answer ≡ declared.TheVariants.Length n → AcknowledgesAs q reply n exit
-  acknowledged n told =
-      let is = acknowledgement_written (length reply) q h in
-      let w' = rw is at w in
-      let same : declared.TheVariants.Length n ≡ declared.TheVariants.Length (length (acknowledgement q)) = sym told ∙ w'.answers in
-      record { answers = cc; replied = w'.put }
-
-  pub not_refused : (n : ℕ) → answer ≡ declared.TheVariants.Refused n → ⊥
-  not_refused n told =
-      let w' = rw (acknowledgement_written (length reply) q h) at w in
-      let other : declared.TheVariants.Refused n ≡ declared.TheVariants.Length (length (acknowledgement q)) = sym told ∙ w'.answers in
-      impossible cc
+pub acknowledged : (q : ℕ) (reply : List ℕ) (answer : Result ℕ Refusal) (exit : List ℕ) → reply_room ≤ length reply
+    → WritesAs (write_frame (length reply) acknowledgement_type q []) reply answer exit → AcknowledgesAs q reply (result_unwrap_or answer 0) exit
+acknowledged q reply answer exit h w =
+    let w' = rw (acknowledgement_written (length reply) q h) at w in
+    record { answers = rw w'.answers; replied = w'.put }
 
 -- a data frame, by whether it came again
 module _ (q : ℕ) (payload : List ℕ) (previous : Option ℕ) (before : Counts) (size : ℕ) (reply packet reply₁ packet₁ : List ℕ)
@@ -81,7 +70,7 @@ module _ (q : ℕ) (payload : List ℕ) (previous : Option ℕ) (before : Counts
   closes_new e put = rw (e, told.answers) (record { answers = refl; replied = told.replied; handed_out = put })
 
 -- a frame that is refused puts nothing
-pub refuses : (o : Outcome) (n place : ℕ) (previous : Option ℕ) (before : Counts) (result : Closed) (reply packet : List ℕ)
+pub refuses : (o : Outcome) (n : Refusal) (place : ℕ) (previous : Option ℕ) (before : Counts) (result : Closed) (reply packet : List ℕ)
     → o ≡ refused_frame n place previous before → result ≡ closed_by (refused_frame n place previous before) → ClosesAs o reply packet result reply packet
 refuses o n place previous before result reply packet e told = rw e (record { answers = told; replied = refl; handed_out = refl })
 
@@ -96,18 +85,18 @@ heard q size previous before reply packet = cases (eqb size 0) refl
     cases false e = rw e (record { answers = refl; replied = refl; handed_out = refl })
 
 -- the payload of whole content stands within it
-pub payload_ends : (c : List ℕ) (kind q n : ℕ) → answer.Frame kind q n ≡ read_answer (judged c) → n + 2 ≤ length c
+pub payload_ends : (c : List ℕ) (kind q n : ℕ) → Ok (frame_found kind q n) ≡ read_answer (judged c) → n + 2 ≤ length c
 payload_ends c kind q n e = let found = answer_frame c kind q n e in omega (arith, found.whole, found.size)
 
 -- whole content, by what it was judged to be and by its type
 module _ (c : List ℕ) (previous : Option ℕ) (before : Counts) (reply packet : List ℕ) (result : Closed) where
-  pub closes_refused : (n place : ℕ) → answer.Refused n place ≡ read_answer (judged c) → result ≡ closed_by (refused_frame n place previous before)
+  pub closes_refused : (n : Refusal) (place : ℕ) → Err (fault_at n place) ≡ read_answer (judged c) → result ≡ closed_by (refused_frame n place previous before)
       → ClosesAs (frame_outcome c previous before) reply packet result reply packet
   unfolding frame_outcome
   closes_refused n place e told =
       refuses _ n place previous before result reply packet (ap (λ (found : Read). read_outcome found previous before) (answer_refused (judged c) n place e)) told
 
-  module _ (kind q n : ℕ) (e : answer.Frame kind q n ≡ read_answer (judged c)) where
+  module _ (kind q n : ℕ) (e : Ok (frame_found kind q n) ≡ read_answer (judged c)) where
     pub closes_data : (reply₁ packet₁ : List ℕ) → kind ≡ data_type
         → ClosesAs (data_frame q (take (n + 2 - 2) (drop 2 c)) previous before) reply packet result reply₁ packet₁
         → ClosesAs (frame_outcome c previous before) reply packet result reply₁ packet₁
@@ -157,8 +146,9 @@ read_reply (frame kind q payload) previous before = cases (eqb kind data_type) (
     cases false true false = omega arith
     cases false false v = omega arith
 
-pub close_reply : (end : Ended) (array : List ℕ) (previous : Option ℕ) (before : Counts) → length (close_of end array previous before).reply ≤ reply_room
+pub close_reply : (end : Result (Option ℕ) Fault) (array : List ℕ) (previous : Option ℕ) (before : Counts)
+    → length (close_of end array previous before).reply ≤ reply_room
 unfolding frame_outcome
-close_reply ends.Nothing array previous before = omega arith
-close_reply (ends.Content n) array previous before = read_reply (judged (take n array)) previous before
-close_reply (ends.Refused n place) array previous before = omega arith
+close_reply (Ok None) array previous before = omega arith
+close_reply (Ok (Some n)) array previous before = read_reply (judged (take n array)) previous before
+close_reply (Err fault) array previous before = omega arith

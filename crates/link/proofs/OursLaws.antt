@@ -1,13 +1,11 @@
 -- At a fresh start and after each walk the content is whole and the reader's length within it, since a byte is stored only while there is
 -- room.
-use Rattle.std.proofs.Common.{◌≡◌, ℕ, suc, ◌≤◌, Bool, true, false, eqb, List, [], ◌∷◌, length, sym, refl, ◌∙◌, arith, eqb-true}
+use Rattle.std.proofs.Common.{◌≡◌, ℕ, Some, None, Ok, Err, suc, ◌≤◌, Bool, true, false, eqb, List, [], ◌∷◌, length, sym, refl, ◌∙◌, arith, eqb-true}
 use borrow.Author.Tests.{eqb-false}
 use Rattle.slices.proofs.Impossible.{impossible}
 use Rattle.frame.specs.Stuffing.{content_max, flag_byte}
 use Rattle.link.specs.declared.reader.Reader.{Reader}
-use Rattle.link.specs.declared.reader.Ended.{Ended}
-use Rattle.link.specs.declared.reader.Ended.TheVariants as ends
-use Rattle.link.specs.Reader.{ended_by, step_of}
+use Rattle.link.specs.Reader.{Ended, ended_by, step_of}
 use Rattle.link.specs.Walk.{Turn, goes_on, stops, flag_turn, turn_of, go_on, walk_of}
 use Rattle.link.specs.Receiving.{fresh_link}
 use Rattle.link.specs.Seen.{Ours}
@@ -19,9 +17,9 @@ module _ (content : List ℕ) (reader : Reader) (whole : length content ≡ cont
   turn_within b content₁ reader₁ e = by_flag (eqb b flag_byte) refl
     where
       by_end : (end : Ended) → flag_turn content end ≡ goes_on content₁ reader₁ → reader₁.length ≤ content_max
-      by_end ends.Nothing f = let none : reader₁.length ≡ 0 = cc in omega arith
-      by_end (ends.Content n) f = impossible cc
-      by_end (ends.Refused n place) f = impossible cc
+      by_end (Ok None) f = let none : reader₁.length ≡ 0 = cc in omega arith
+      by_end (Ok (Some n)) f = impossible cc
+      by_end (Err fault) f = impossible cc
 
       by_flag : (t : Bool) → eqb b flag_byte ≡ t → reader₁.length ≤ content_max
       by_flag true f = by_end (ended_by reader) (sym (turn_flag content reader b (eqb-true b flag_byte f)) ∙ e)

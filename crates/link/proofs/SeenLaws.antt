@@ -1,13 +1,11 @@
 -- What a byte makes of the reader depends on what was seen before, and on the byte, alone.
-use Rattle.std.proofs.Common.{◌≡◌, ℕ, Option, ◌<◌, ◌≤◌, Bool, true, false, cond, eqb, ltb, List, ◌++◌, length, take, sym, refl, ap, ◌∙◌, append-nil, arith, length-take, length-take-le, take_all, take-suc-set, ltb-false, ltb-true}
+use Rattle.std.proofs.Common.{◌≡◌, ℕ, Option, Some, None, Ok, ◌<◌, ◌≤◌, Bool, true, false, cond, eqb, ltb, List, ◌++◌, length, take, sym, refl, ap, ◌∙◌, append-nil, arith, length-take, length-take-le, take_all, take-suc-set, ltb-false, ltb-true}
 use Rattle.frame.specs.Stuffing.{content_max, plain, escaped, Meaning, escapes_next, stands_for, faulty, meaning}
 use Rattle.link.specs.declared.counts.Counts.{Counts}
 use Rattle.link.specs.declared.reader.Phase.{Phase}
 use Rattle.link.specs.declared.reader.Phase.TheVariants.{Before, Plain, Escaped, BadFraming, LongContent}
 use Rattle.link.specs.declared.reader.Reader.{Reader}
-use Rattle.link.specs.declared.reader.Ended.{Ended}
-use Rattle.link.specs.declared.reader.Ended.TheVariants as ends
-use Rattle.link.specs.Reader.{next_place, ended_in, ended_by, Step, turned, store_of, step_by, step_in, step_of, content_after}
+use Rattle.link.specs.Reader.{Ended, next_place, ended_in, ended_by, Step, turned, store_of, step_by, step_in, step_of, content_after}
 use Rattle.link.specs.Closing.{close_of}
 use Rattle.link.specs.Seen.{seen, reader_of, seen_after, close_seen}
 use Rattle.link.proofs.ReaderLaws.{store_room, store_full}
@@ -75,8 +73,8 @@ module _ (content : List ℕ) (held place : ℕ) (previous : Option ℕ) (before
       same = take_all held (take held content) (simp length-take (omega arith))
 
       cases : (t : Bool)
-          → close_of (cond t ends.Nothing (ends.Content held)) content previous before
-          ≡ close_of (cond t ends.Nothing (ends.Content held)) (take held content) previous before
+          → close_of (cond t (Ok None) (Ok (Some held))) content previous before
+          ≡ close_of (cond t (Ok None) (Ok (Some held))) (take held content) previous before
       cases true = refl
       cases false = rw same
   close_first Escaped = refl

@@ -1,16 +1,17 @@
 -- 01, The receiver: what a frame does once the flag behind it is met.
-use Rattle.std.specs.Prelude.{ℕ, Option, Some, None, Bool, false, cond, List, [], length, take, ◌==◌}
-use Rattle.refusals.specs.Numbers.{unknown_type, loaded_acknowledgement}
+use Rattle.std.specs.Prelude.{ℕ, Option, Some, None, Ok, Err, Bool, false, cond, List, [], length, take, ◌==◌}
+use Rattle.refusals.specs.Numbers.{unknown_type, loaded_acknowledgement, number_of}
+use Rattle.refusals.specs.declared.Refusal.{Refusal}
 use Rattle.frame.specs.Content as content
 use Rattle.frame.specs.Content.{data_type, acknowledgement_type, no_place, judged}
 use Rattle.frame.specs.Writing.{frame_of}
+use Rattle.frame.specs.Answers.{fault_at}
 use Rattle.link.specs.declared.counts.Counts.{Counts}
 use Rattle.link.specs.declared.counts.Event.TheVariants as event
-use Rattle.link.specs.declared.reader.Ended.{Ended}
-use Rattle.link.specs.declared.reader.Ended.TheVariants as ends
 use Rattle.link.specs.declared.receiver.Answer.{Answer}
 use Rattle.link.specs.declared.receiver.Answer.TheVariants as says
 use Rattle.link.specs.Counts.{count_of}
+use Rattle.link.specs.Reader.{Ended}
 
 -- a reply buffer has at least 9 bytes: an acknowledgement's six, and three that may be escaped
 abbrev pub reply_room : ℕ
@@ -35,9 +36,9 @@ pub record Outcome : Type 0 where
   pub packet : List ℕ
 
 -- 01, Refusal numbers: a frame refused by 1 to 6 adds one to its count. 02, C-16: the receiver hands its place on.
-abbrev pub refused_frame : ℕ → ℕ → Option ℕ → Counts → Outcome
+abbrev pub refused_frame : Refusal → ℕ → Option ℕ → Counts → Outcome
 refused_frame n place previous before =
-    record { last = previous; counts = count_of (event.Refused n) before; answer = says.Refused n place; reply = []; packet = [] }
+    record { last = previous; counts = count_of (event.Refused (number_of n)) before; answer = says.Refused (fault_at n place); reply = []; packet = [] }
 
 -- a valid type 02 is heard, with its sequence reported; with a payload it is refusal 6
 abbrev pub acknowledgement_frame : ℕ → ℕ → Option ℕ → Counts → Outcome
@@ -86,7 +87,7 @@ frame_outcome c previous before = read_outcome (judged c) previous before
 
 -- 01, Frames: an empty frame is dropped uncounted; a fault is its refusal; other content is judged
 abbrev pub close_of : Ended → List ℕ → Option ℕ → Counts → Outcome
-close_of ends.Nothing array previous before =
+close_of (Ok None) array previous before =
     record { last = previous; counts = before; answer = says.Nothing; reply = []; packet = [] }
-close_of (ends.Content n) array previous before = frame_outcome (take n array) previous before
-close_of (ends.Refused n place) array previous before = refused_frame n place previous before
+close_of (Ok (Some n)) array previous before = frame_outcome (take n array) previous before
+close_of (Err fault) array previous before = refused_frame fault.refusal fault.place previous before

@@ -1,13 +1,13 @@
 -- 01, The receiver: what the receiver makes of one byte of the line.
-use Rattle.std.specs.Prelude.{ℕ, suc, cond, List, [], ◌∷◌, ◌==◌, nat_lt}
+use Rattle.std.specs.Prelude.{ℕ, Option, Some, None, Result, Ok, Err, suc, cond, List, [], ◌∷◌, ◌==◌, nat_lt}
 use Rattle.refusals.specs.Numbers.{bad_framing, long_content}
 use Rattle.slices.specs.Put.{put_at}
 use Rattle.frame.specs.Stuffing.{content_max, sent_max, plain, escaped, Meaning, escapes_next, stands_for, faulty, meaning}
+use Rattle.frame.specs.Answers.{fault_at}
+use Rattle.frame.specs.declared.content.Fault.{Fault}
 use Rattle.link.specs.declared.reader.Phase.{Phase}
 use Rattle.link.specs.declared.reader.Phase.TheVariants.{Before, Plain, Escaped, BadFraming, LongContent}
 use Rattle.link.specs.declared.reader.Reader.{Reader}
-use Rattle.link.specs.declared.reader.Ended.{Ended}
-use Rattle.link.specs.declared.reader.Ended.TheVariants as ended
 
 -- 01, Frames: each flag after the first ends one frame and begins the next, which is empty at first
 abbrev pub behind_flag : Reader
@@ -18,13 +18,17 @@ behind_flag = record { phase = Plain; length = 0; place = 0 }
 abbrev pub next_place : ℕ → ℕ
 next_place place = cond (nat_lt place sent_max) (suc place) place
 
+-- what a flag ends: nothing, content of so many bytes, or a frame that was refused on the way
+abbrev pub Ended : Type 0
+Ended = Result (Option ℕ) Fault
+
 -- 01, Frames: content of length 0 without a fault is no frame; 7d followed by the closing flag is refusal 1, at the flag's place
 abbrev pub ended_in : Phase → ℕ → ℕ → Ended
-ended_in Before held place = ended.Nothing
-ended_in Plain held place = cond (held == 0) ended.Nothing (ended.Content held)
-ended_in Escaped held place = ended.Refused bad_framing (next_place place)
-ended_in BadFraming held place = ended.Refused bad_framing place
-ended_in LongContent held place = ended.Refused long_content place
+ended_in Before held place = Ok None
+ended_in Plain held place = cond (held == 0) (Ok None) (Ok (Some held))
+ended_in Escaped held place = Err (fault_at bad_framing (next_place place))
+ended_in BadFraming held place = Err (fault_at bad_framing place)
+ended_in LongContent held place = Err (fault_at long_content place)
 
 abbrev pub ended_by : Reader → Ended
 ended_by reader = ended_in reader.phase reader.length reader.place

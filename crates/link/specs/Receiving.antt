@@ -4,6 +4,7 @@ use Rattle.refusals.specs.Numbers.{short_output}
 use Rattle.slices.specs.Put.{put_at}
 use Rattle.frame.specs.Stuffing.{content_max}
 use Rattle.frame.specs.Content.{payload_max, no_place}
+use Rattle.frame.specs.Answers.{fault_at}
 use Rattle.link.specs.declared.counts.Event.TheVariants as event
 use Rattle.link.specs.declared.reader.Phase.TheVariants.{Before}
 use Rattle.link.specs.declared.receiver.Answer.{Answer}
@@ -24,7 +25,7 @@ pub record Call : Type 0 where
 
 -- a call with a short buffer is refused with 7, takes nothing and changes nothing
 abbrev pub short_call : Link → Call
-short_call state = record { link = state; taken = 0; answer = says.Refused short_output no_place; reply = []; packet = [] }
+short_call state = record { link = state; taken = 0; answer = says.Refused (fault_at short_output no_place); reply = []; packet = [] }
 
 -- how far the walk came, and what the frame did that it ended
 abbrev pub call_of : Walk → Outcome → Call

@@ -1,11 +1,9 @@
 -- 01, The receiver: a call stops after the flag that closes a frame with any content byte or fault, or at the end of the
 -- piece, and says how many bytes it took.
-use Rattle.std.specs.Prelude.{ℕ, suc, cond, List, [], ◌∷◌, ◌==◌}
+use Rattle.std.specs.Prelude.{ℕ, Some, None, Ok, Err, suc, cond, List, [], ◌∷◌, ◌==◌}
 use Rattle.frame.specs.Stuffing.{flag_byte}
 use Rattle.link.specs.declared.reader.Reader.{Reader}
-use Rattle.link.specs.declared.reader.Ended.{Ended}
-use Rattle.link.specs.declared.reader.Ended.TheVariants as ended
-use Rattle.link.specs.Reader.{behind_flag, ended_by, step_of, content_after}
+use Rattle.link.specs.Reader.{Ended, behind_flag, ended_by, step_of, content_after}
 
 -- what one byte does: the walk goes on with content and reader, or stops at what the flag ended
 pub data Turn : Type 0 where
@@ -13,9 +11,9 @@ pub data Turn : Type 0 where
   stops : Ended → Turn
 
 abbrev pub flag_turn : List ℕ → Ended → Turn
-flag_turn content ended.Nothing = goes_on content behind_flag
-flag_turn content (ended.Content n) = stops (ended.Content n)
-flag_turn content (ended.Refused n place) = stops (ended.Refused n place)
+flag_turn content (Ok None) = goes_on content behind_flag
+flag_turn content (Ok (Some n)) = stops (Ok (Some n))
+flag_turn content (Err fault) = stops (Err fault)
 
 unfoldable pub turn_of : List ℕ → Reader → ℕ → Turn
 turn_of content reader b =
@@ -36,6 +34,6 @@ go_on (stops e) before n rest = record { content = before; reader = behind_flag;
 
 -- the piece from a content and a reader on, with n bytes taken before
 unfoldable pub walk_of : List ℕ → List ℕ → Reader → ℕ → Walk
-walk_of [] content reader n = record { content = content; reader = reader; taken = n; ended = ended.Nothing }
+walk_of [] content reader n = record { content = content; reader = reader; taken = n; ended = Ok None }
 walk_of (b ∷ bs) content reader n =
     go_on (turn_of content reader b) content (suc n) (λ content₁ reader₁ n₁. walk_of bs content₁ reader₁ n₁)

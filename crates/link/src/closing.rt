@@ -1,5 +1,6 @@
 // A frame at its closing flag: it is refused, heard, or answered and handed out.
 ghost use Rattle.std.specs.Prelude.{◌≡◌};
+ghost use Rattle.frame.specs.Content.{no_place};
 ghost use Rattle.link.specs.Closing.{refused_frame, acknowledgement_frame, frame_outcome, close_of};
 ghost use Rattle.link.specs.Counts.{count_of};
 ghost use Rattle.link.specs.Steps.{closed_by, ClosesAs};
@@ -8,9 +9,9 @@ use crate::counts::{Counts, Event, count};
 use crate::data::take_data;
 use crate::reader::Ended;
 use crate::receiver::{Answer, REPLY_ROOM};
-use frame::content::{FrameRead, judge};
+use frame::content::{Fault, judge};
 use frame::{ACKNOWLEDGEMENT, DATA, HEADER_SIZE, NO_PLACE};
-use refusals::{LOADED_ACKNOWLEDGEMENT, UNKNOWN_TYPE};
+use refusals::Refusal;
 
 // What a frame goes by and leaves behind: the sequence of the last data frame, and the counts.
 #[derive(Clone, Copy)]
@@ -38,26 +39,37 @@ pub(crate) fn close(
     ensures { ClosesAs (close_of ended content.now state.last state.counts) reply.old packet.old result reply.new packet.new }
 {
     match ended {
-        Ended::Nothing => Closed {
+        Ok(None) => Closed {
             state,
             answer: Answer::Nothing,
         },
-        Ended::Refused { number, place } => refuse(number, place, state),
-        Ended::Content(length) => {
+        Ok(Some(length)) => {
             let whole = slices::first(content, length);
             take_frame(whole, state, reply, packet)
         }
+        Err(fault) => refuse(fault, state),
     }
 }
 
-// Counts a frame that is refused, and answers its place.
-fn refuse(number: u8, place: usize, state: State) -> Closed
-    ensures { result ≡ closed_by (refused_frame number place state.last state.counts) }
+// Counts a frame that is refused, and answers why and where.
+fn refuse(fault: Fault, state: State) -> Closed
+    ensures { result ≡ closed_by (refused_frame fault.refusal fault.place state.last state.counts) }
 {
     Closed {
-        state: counted(state, Event::Refused(number)),
-        answer: Answer::Refused { number, place },
+        state: counted(state, Event::Refused(fault.refusal.number())),
+        answer: Answer::Refused(fault),
     }
+}
+
+// Refuses a frame for its type, which is at no place.
+fn refuse_kind(refusal: Refusal, state: State) -> Closed
+    ensures { result ≡ closed_by (refused_frame refusal no_place state.last state.counts) }
+{
+    let fault = Fault {
+        refusal,
+        place: NO_PLACE,
+    };
+    refuse(fault, state)
 }
 
 // Judges whole content: refusals 3 and 4, then 5 and 6 by its type.
@@ -70,18 +82,14 @@ fn take_frame(
     ensures { ClosesAs (frame_outcome content.now state.last state.counts) reply.old packet.old result reply.new packet.new }
 {
     match judge(content) {
-        FrameRead::Refused { number, place } => refuse(number, place, state),
-        FrameRead::Frame {
-            kind,
-            sequence,
-            length,
-        } => match kind {
+        Err(fault) => refuse(fault, state),
+        Ok(frame) => match frame.kind {
             DATA => {
-                let payload = &content[HEADER_SIZE..length + HEADER_SIZE];
-                take_data(sequence, payload, state, reply, packet)
+                let payload = &content[HEADER_SIZE..frame.length + HEADER_SIZE];
+                take_data(frame.sequence, payload, state, reply, packet)
             }
-            ACKNOWLEDGEMENT => hear(sequence, length, state),
-            _ => refuse(UNKNOWN_TYPE, NO_PLACE, state),
+            ACKNOWLEDGEMENT => hear(frame.sequence, frame.length, state),
+            _ => refuse_kind(Refusal::UnknownType, state),
         },
     }
 }
@@ -91,7 +99,7 @@ fn hear(sequence: u8, length: usize, state: State) -> Closed
     ensures { result ≡ closed_by (acknowledgement_frame sequence length state.last state.counts) }
 {
     if length != 0 {
-        return refuse(LOADED_ACKNOWLEDGEMENT, NO_PLACE, state);
+        return refuse_kind(Refusal::LoadedAcknowledgement, state);
     }
     Closed {
         state: counted(state, Event::Heard),

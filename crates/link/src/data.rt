@@ -7,7 +7,7 @@ use crate::closing::{Closed, State, counted};
 use crate::counts::Event;
 use crate::receiver::{Answer, REPLY_ROOM};
 use frame::ACKNOWLEDGEMENT;
-use frame::writer::{Written, write_frame};
+use frame::writer::write_frame;
 
 // Answers a data frame, and hands its payload out unless it came again.
 pub(crate) fn take_data(
@@ -50,8 +50,5 @@ fn repeated(last: Option<u8>, sequence: u8) -> bool
 fn acknowledge(sequence: u8, reply: &mut [u8; REPLY_ROOM]) -> usize
     ensures { AcknowledgesAs sequence reply.old result reply.new }
 {
-    match write_frame(ACKNOWLEDGEMENT, sequence, b"", reply) {
-        Written::Length(length) => length,
-        Written::Refused(_) => 0,
-    }
+    write_frame(ACKNOWLEDGEMENT, sequence, b"", reply).unwrap_or(0)
 }

@@ -4,8 +4,9 @@ ghost use Rattle.std.specs.Prelude.{◌≡◌};
 ghost use Rattle.link.specs.Reader.{behind_flag, next_place, ended_by, step_of, store_of};
 ghost use Rattle.link.specs.Steps.{StepsAs};
 
+use frame::content::Fault;
 use frame::{CONTENT_MAX, ESCAPE, ESCAPED_DIFFERENCE, ESCAPED_ESCAPE, ESCAPED_FLAG, SENT_MAX};
-use refusals::{BAD_FRAMING, LONG_CONTENT};
+use refusals::Refusal;
 
 // Where a reader stands: before the first flag; behind a plain byte or a flag; behind an escape
 // byte; or in a frame in which refusal 1 or 2 was met.
@@ -27,14 +28,9 @@ pub struct Reader {
     pub place: usize,
 }
 
-// What a flag ends: nothing, before the first frame and behind another flag; content of so many
-// bytes; or a frame that was refused on the way, at a place.
-#[derive(Clone, Copy)]
-pub enum Ended {
-    Nothing,
-    Content(usize),
-    Refused { number: u8, place: usize },
-}
+// What a flag ends: nothing (None), before the first frame and behind another flag; content of so
+// many bytes; or a frame that was refused on the way, at a place.
+pub type Ended = Result<Option<usize>, Fault>;
 
 // The reader right behind a flag.
 pub(crate) fn behind_flag() -> Reader
@@ -52,21 +48,21 @@ pub(crate) fn ended_by_flag(reader: Reader) -> Ended
     ensures { result ≡ ended_by reader }
 {
     match reader.phase {
-        Phase::Before => Ended::Nothing,
-        Phase::Plain if reader.length == 0 => Ended::Nothing,
-        Phase::Plain => Ended::Content(reader.length),
-        Phase::Escaped => Ended::Refused {
-            number: BAD_FRAMING,
+        Phase::Before => Ok(None),
+        Phase::Plain if reader.length == 0 => Ok(None),
+        Phase::Plain => Ok(Some(reader.length)),
+        Phase::Escaped => Err(Fault {
+            refusal: Refusal::BadFraming,
             place: next_place(reader.place),
-        },
-        Phase::BadFraming => Ended::Refused {
-            number: BAD_FRAMING,
+        }),
+        Phase::BadFraming => Err(Fault {
+            refusal: Refusal::BadFraming,
             place: reader.place,
-        },
-        Phase::LongContent => Ended::Refused {
-            number: LONG_CONTENT,
+        }),
+        Phase::LongContent => Err(Fault {
+            refusal: Refusal::LongContent,
             place: reader.place,
-        },
+        }),
     }
 }
 

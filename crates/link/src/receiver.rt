@@ -7,8 +7,9 @@ use crate::closing::{State, close};
 use crate::counts::{Counts, Event, count, none};
 use crate::reader::{Phase, Reader};
 use crate::walk::walk;
+use frame::content::Fault;
 use frame::{CONTENT_MAX, NO_PLACE, PAYLOAD_MAX};
-use refusals::SHORT_OUTPUT;
+use refusals::Refusal;
 
 // An acknowledgement has six bytes, of which three may be escaped.
 pub const REPLY_ROOM: usize = 9;
@@ -23,13 +24,13 @@ pub struct Link {
     pub counts: Counts,
 }
 
-// What a call brought: no frame; a refusal's number and its place; the sequence of an
-// acknowledgement; the length of the reply to a data frame that came again; or the lengths of a new
-// one's reply and payload.
+// What a call brought: no frame; a refusal with its place; the sequence of an acknowledgement; the
+// length of the reply to a data frame that came again; or the lengths of a new one's reply and
+// payload.
 #[derive(Clone, Copy)]
 pub enum Answer {
     Nothing,
-    Refused { number: u8, place: usize },
+    Refused(Fault),
     Heard(u8),
     Again(usize),
     New { reply: usize, packet: usize },
@@ -105,9 +106,9 @@ fn short_output(link: Link) -> Received
     Received {
         link,
         taken: 0,
-        answer: Answer::Refused {
-            number: SHORT_OUTPUT,
+        answer: Answer::Refused(Fault {
+            refusal: Refusal::ShortOutput,
             place: NO_PLACE,
-        },
+        }),
     }
 }

@@ -23,20 +23,19 @@ pub fn walk(piece: &[u8], content: &mut [u8; CONTENT_MAX], reader: Reader) -> Wa
             next = step(next, *byte, content);
             continue;
         }
-        match ended_by_flag(next) {
-            Ended::Nothing => next = behind_flag(),
-            ended => {
-                return Walked {
-                    reader: behind_flag(),
-                    taken: i + 1,
-                    ended,
-                };
-            }
+        let ended = ended_by_flag(next);
+        next = behind_flag();
+        if !matches!(ended, Ok(None)) {
+            return Walked {
+                reader: next,
+                taken: i + 1,
+                ended,
+            };
         }
     }
     Walked {
         reader: next,
         taken: piece.len(),
-        ended: Ended::Nothing,
+        ended: Ok(None),
     }
 }

@@ -5,6 +5,7 @@ use mathlib.Core.List.{List, []}
 use Prim.Native.Nat.{ℕ}
 use lib.Dec.{ltb}
 use Rattle.std.proofs.Common.{Option, Some, None}
+use Rattle.refusals.specs.declared.Refusal.{Refusal}
 use Rattle.slices.proofs.Impossible.{impossible}
 use Rattle.slices.specs.Written as writer
 use Rattle.slices.specs.Written.{Output}
@@ -21,12 +22,12 @@ pub record Keeps (s : Sender) (given : Given) : Type 0 where
   pub sender : given.outcome.sender ≡ s
   pub output : given.output ≡ []
 
-refused_keeps : (o : Output) (s behind : Sender) (says : ℕ → Answer) (n : ℕ) → ((k : ℕ) → says k ≡ Refused n → ⊥)
+refused_keeps : (o : Output) (s behind : Sender) (says : ℕ → Answer) (n : Refusal) → ((k : ℕ) → says k ≡ Refused n → ⊥)
     → (goes_out o s behind says).outcome.answer ≡ Refused n → Keeps s (goes_out o s behind says)
 refused_keeps (writer.written bytes) s behind says n never e = absurd (never _ e)
 refused_keeps (writer.refused m) s behind says n never e = record { sender = refl; output = refl }
 
-pub refused_send_keeps : (s : Sender) (payload : List ℕ) (room n : ℕ) → (send_of s payload room).outcome.answer ≡ Refused n → Keeps s (send_of s payload room)
+pub refused_send_keeps : (s : Sender) (payload : List ℕ) (room : ℕ) (n : Refusal) → (send_of s payload room).outcome.answer ≡ Refused n → Keeps s (send_of s payload room)
 unfolding send_of
 refused_send_keeps s payload room n e = by_held s.held e
   where
@@ -35,7 +36,7 @@ refused_send_keeps s payload room n e = by_held s.held e
         refused_keeps (write_frame room data_type s.next payload) s (holding s payload) (Sent s.next) n (λ k f. impossible cc) e
     by_held (Some held) e = record { sender = refl; output = refl }
 
-pub refused_timeout_keeps : (s : Sender) (room n : ℕ) → (timeout_of s room).outcome.answer ≡ Refused n → Keeps s (timeout_of s room)
+pub refused_timeout_keeps : (s : Sender) (room : ℕ) (n : Refusal) → (timeout_of s room).outcome.answer ≡ Refused n → Keeps s (timeout_of s room)
 unfolding timeout_of
 refused_timeout_keeps s room n e = by_held s.held e
   where

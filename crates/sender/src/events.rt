@@ -5,8 +5,8 @@ ghost use Rattle.sender.specs.Events.{sent_next, send_of, repeats_max, sent_agai
 
 use crate::state::{Answer, Held, Outcome, Sender, free, hold};
 use frame::DATA;
-use frame::writer::{Written, write_frame};
-use refusals::FRAME_WAITING;
+use frame::writer::write_frame;
+use refusals::Refusal;
 
 // How often a frame is sent again before it is dropped.
 const REPEATS_MAX: u8 = 2;
@@ -20,7 +20,7 @@ pub fn send(sender: Sender, payload: &[u8], output: &mut [u8]) -> Outcome
     if sender.held.is_some() {
         return Outcome {
             sender,
-            answer: Answer::Refused(FRAME_WAITING),
+            answer: Answer::Refused(Refusal::FrameWaiting),
         };
     }
     send_next(sender, payload, output)
@@ -32,13 +32,13 @@ fn send_next(sender: Sender, payload: &[u8], output: &mut [u8]) -> Outcome
 {
     let sequence = sender.next;
     match write_frame(DATA, sequence, payload, output) {
-        Written::Refused(number) => Outcome {
-            sender,
-            answer: Answer::Refused(number),
-        },
-        Written::Length(length) => Outcome {
+        Ok(length) => Outcome {
             sender: hold(sender, payload),
             answer: Answer::Sent { sequence, length },
+        },
+        Err(refusal) => Outcome {
+            sender,
+            answer: Answer::Refused(refusal),
         },
     }
 }
@@ -70,11 +70,7 @@ fn send_again(sender: Sender, held: Held, output: &mut [u8]) -> Outcome
 {
     let sequence = held.sequence;
     match write_frame(DATA, sequence, sender.payload.as_slice(), output) {
-        Written::Refused(number) => Outcome {
-            sender,
-            answer: Answer::Refused(number),
-        },
-        Written::Length(length) => {
+        Ok(length) => {
             let again = Held {
                 repeats: held.repeats + 1,
                 ..held
@@ -87,6 +83,10 @@ fn send_again(sender: Sender, held: Held, output: &mut [u8]) -> Outcome
                 answer: Answer::Repeated { sequence, length },
             }
         }
+        Err(refusal) => Outcome {
+            sender,
+            answer: Answer::Refused(refusal),
+        },
     }
 }
 

@@ -3,6 +3,7 @@ ghost use Rattle.std.specs.Prelude.{◌≡◌};
 ghost use Rattle.sender.specs.State.{next_sequence, no_payload, fresh_sender, holding, freed};
 
 use frame::PAYLOAD_MAX;
+use refusals::Refusal;
 use slices::FixedBytes;
 
 // The payload of the held frame. Its other bytes are zeros, and all of them where nothing is held.
@@ -23,12 +24,12 @@ pub struct Sender {
     pub payload: Payload,
 }
 
-// What an event gave: nothing; a refusal's number; a frame sent for the first time or again, with its
+// What an event gave: nothing; a refusal; a frame sent for the first time or again, with its
 // length in the output; or the report that a frame was dropped.
 #[derive(Clone, Copy)]
 pub enum Answer {
     Nothing,
-    Refused(u8),
+    Refused(Refusal),
     Sent { sequence: u8, length: usize },
     Repeated { sequence: u8, length: usize },
     Dropped(u8),

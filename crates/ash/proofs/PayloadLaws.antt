@@ -4,17 +4,17 @@ use mathlib.Core.List.{List}
 use Prim.Native.Nat.{ℕ, ◌≤◌}
 use native.Mathlib.Omega.{arith}
 use lib.ListN.{length, take}
-use Rattle.std.specs.Prelude.{Some, None}
+use Rattle.std.specs.Prelude.{Some, None, Result, Err}
 use Rattle.slices.proofs.Impossible.{impossible}
 use Rattle.slices.proofs.PutLaws.{put_first}
 use Rattle.ash.specs.Stuffing.{Unstuffed, payload, broken, unstuff}
 use Rattle.ash.specs.ReaderSteps.{unstuff_answer, UnstuffsAs}
 use Rattle.refusals.specs.Numbers.{bad_stuffing}
+use Rattle.refusals.specs.declared.Refusal.{Refusal}
 use Rattle.ash.specs.Check.{check_over}
 use Rattle.ash.specs.Reading.{compared, checked}
 use Rattle.ash.specs.Answers.{ReadsAs}
-use Rattle.ash.specs.declared.reader.FrameRead.{FrameRead}
-use Rattle.ash.specs.declared.reader.FrameRead.TheVariants.{Refused}
+use Rattle.ash.specs.declared.reader.Frame.{Frame}
 use Rattle.ash.proofs.StuffTheorems.{stuff_unstuff}
 
 checked_found : (control : ℕ) (check sent array exit : List ℕ) (n : ℕ) → n ≤ length array → UnstuffsAs (unstuff sent) array (Some n) exit
@@ -30,7 +30,7 @@ checked_found control check sent array exit n room u = cases (unstuff sent) refl
         rw (bytes, ap length (stuff_unstuff sent p is))
 
 -- what was unstuffed and answered is checked
-pub checked_payload : (control : ℕ) (check sent array exit out out₁ : List ℕ) (n : ℕ) (answer : FrameRead) → length sent ≤ length array → n ≤ length sent
+pub checked_payload : (control : ℕ) (check sent array exit out out₁ : List ℕ) (n : ℕ) (answer : Result Frame Refusal) → length sent ≤ length array → n ≤ length sent
     → UnstuffsAs (unstuff sent) array (Some n) exit
     → ReadsAs (compared control check (check_over control (length sent) (take n exit)) (take n exit)) out answer out₁
     → ReadsAs (checked control check (unstuff sent)) out answer out₁
@@ -38,9 +38,9 @@ checked_payload control check sent array exit out out₁ n answer room few u r =
 
 -- and what breaks a rule is refused
 pub checked_broken : (control : ℕ) (check sent array exit out : List ℕ) → UnstuffsAs (unstuff sent) array None exit
-    → ReadsAs (checked control check (unstuff sent)) out (Refused bad_stuffing) out
+    → ReadsAs (checked control check (unstuff sent)) out (Err bad_stuffing) out
 checked_broken control check sent array exit out u = cases (unstuff sent) u.answers
   where
-    cases : (found : Unstuffed) → None ≡ unstuff_answer found → ReadsAs (checked control check found) out (Refused bad_stuffing) out
+    cases : (found : Unstuffed) → None ≡ unstuff_answer found → ReadsAs (checked control check found) out (Err bad_stuffing) out
     cases broken g = record { answers = refl; output = refl }
     cases (payload p) g = impossible cc

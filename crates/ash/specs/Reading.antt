@@ -1,6 +1,7 @@
 -- 02, C-11: the reader of one frame, and its refusals in their order.
 use Rattle.std.specs.Prelude.{ℕ, ◌+◌, Bool, false, cond, ◌&&◌, List, [], ◌∷◌, eqb, ltb, leb, length, take, drop, get_or}
 use Rattle.refusals.specs.Numbers.{short_output, bad_header, bad_length, bad_stuffing, other_check}
+use Rattle.refusals.specs.declared.Refusal.{Refusal}
 use Rattle.slices.specs.Same.{same_bytes}
 use Rattle.ash.specs.Reserved.{flag_byte, unescaped}
 use Rattle.ash.specs.Stuffing.{payload_max, Unstuffed, payload, broken, unstuff}
@@ -10,7 +11,7 @@ use Rattle.ash.specs.Check.{check_bytes}
 -- what the bytes turn out to be: a frame's control byte and payload, or a refusal
 pub data Read : Type 0 where
   frame : ℕ → List ℕ → Read
-  refused : ℕ → Read
+  refused : Refusal → Read
 
 -- refusal 24: check bytes other than the writer's
 abbrev pub compared : ℕ → List ℕ → List ℕ → List ℕ → Read

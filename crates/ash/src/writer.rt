@@ -11,26 +11,25 @@ use crate::check::check_bytes;
 use crate::header::{header_escape, sent_byte};
 use crate::stuffing::put_stuffed;
 use crate::{FLAG, FRAME_MIN, HEADER_SIZE, PAYLOAD_MAX};
-use refusals::{BAD_LENGTH, SHORT_OUTPUT};
-pub use slices::Written;
+use refusals::Refusal;
 
 // Writes the frame of a control byte and a payload at the start of `out`: refusal 22 for a payload
 // over 57 bytes as sent, then refusal 7 where `out` has too little room.
 #[tactic(auto, using(crate::proofs::WriteLaws::frame_length, crate::proofs::WriteLaws::frame_parts, slices::proofs::PutLaws::put_told), unfolding(crate::specs::Writing::write_frame, slices::specs::Written::fitted))]
-pub fn write_frame(control: u8, payload: &[u8], out: &mut [u8]) -> Written
+pub fn write_frame(control: u8, payload: &[u8], out: &mut [u8]) -> Result<usize, Refusal>
     ensures { WritesAs (write_frame (length out.old) control payload.now) out.old result out.new }
 {
     let mut sent = [0u8; PAYLOAD_MAX];
     let length = put_stuffed(&mut sent, payload);
     if PAYLOAD_MAX < length {
-        return Written::Refused(BAD_LENGTH);
+        return Err(Refusal::BadLength);
     }
     let size = FRAME_MIN + length;
     if out.len() < size {
-        return Written::Refused(SHORT_OUTPUT);
+        return Err(Refusal::ShortOutput);
     }
     put_frame(control, payload, &sent[..length], out);
-    Written::Length(size)
+    Ok(size)
 }
 
 // Puts the frame of a payload that is sent as the bytes `sent` at the start of `out`.

@@ -4,5 +4,6 @@ use Rattle.ash.proofs.reader.read_payload.Goals as goal
 
 pub returns : goal.returns
 returns c =
-    checked_payload c.args.control c.args.check.now c.args.sent.now _ _ c.args.out.now _ _ _ c.requires c.in-Some.ensures.few c.in-Some.ensures.read
-    c.hand_out.ensures
+    let some = c.in_ok-length.ensures.ok_part in
+    checked_payload c.args.control c.args.check.now c.args.sent.now _ _ c.args.out.now _ _ _ c.requires (rw some at c.unstuff.ensures.few)
+    (rw some at c.unstuff.ensures.read) c.hand_out.ensures

@@ -4,15 +4,15 @@ use mathlib.Core.List.{List, [], ◌∷◌, ◌++◌, append-nil}
 use Prim.Native.Nat.{ℕ, zero, suc, ◌≤◌}
 use native.Mathlib.Omega.{arith}
 use lib.ListN.{length, take, replicate}
+use Rattle.std.specs.Prelude.{Result, Ok, Err}
+use Rattle.refusals.specs.declared.Refusal as refusals
 use Rattle.slices.specs.Put.{put_at}
-use Rattle.slices.specs.declared.Written.TheVariants.{Length}
 use Rattle.ash.specs.Stuffing.{payload_max, stuff}
 use Rattle.ash.specs.Writing.{frame_of}
 use Rattle.ash.specs.Reading as reading
 use Rattle.ash.specs.Reading.{read_frame}
-use Rattle.ash.specs.Answers.{read_answer, read_payload}
-use Rattle.ash.specs.declared.reader.FrameRead.{FrameRead}
-use Rattle.ash.specs.declared.reader.FrameRead.TheVariants as read
+use Rattle.ash.specs.Answers.{frame_read, read_answer, read_payload}
+use Rattle.ash.specs.declared.reader.Frame.{Frame}
 use Rattle.ash.proofs.Calls.{Writes, Reads, was_read, frame_out, frame_in}
 use Rattle.ash.proofs.FrameTheorems.{frame_read_back}
 use Rattle.cutter.specs.Cutting.{wake_byte, between, goes_on, step_of, frames_from, place_after, frames_of}
@@ -42,7 +42,7 @@ module _ {cutter end : Cutter} {os : List Offer} {left : List Left} (b : Begins 
       (every_list b c).frames ∙ ap frames_of line ∙ good_frame_within g.room frame g.control g.payload g.taken between before after
 
   -- THEOREM. Any bytes that a call of `read_frame` takes are handed on whole by the calls that took them.
-  pub read_frame_handed_on : (frame out : List ℕ) (control n : ℕ) (out₁ : List ℕ) → Reads frame out (read.Frame control n) out₁
+  pub read_frame_handed_on : (frame out : List ℕ) (control n : ℕ) (out₁ : List ℕ) → Reads frame out (Ok (frame_read control n)) out₁
       → line_taken os left ≡ before ++ (frame ++ after) → Within before frame after left
   read_frame_handed_on frame out control n out₁ r =
       good_within frame (record { room = length out; control = control; payload = take n out₁; taken = frame_in r })
@@ -54,15 +54,15 @@ module _ {cutter end : Cutter} {os : List Offer} {left : List Left} (b : Begins 
       let taken = frame_read_back control payload payload_max (omega arith) short in
       good_within (frame_of control payload) (record { room = payload_max; control = control; payload = payload; taken = taken })
 
-  pub written_frame_handed_on : (control : ℕ) (payload out : List ℕ) (n : ℕ) (sent : List ℕ) → Writes control payload out (Length n) sent
+  pub written_frame_handed_on : (control : ℕ) (payload out : List ℕ) (n : ℕ) (sent : List ℕ) → Writes control payload out (Ok n) sent
       → line_taken os left ≡ before ++ (take n sent ++ after) → Within before (take n sent) after left
   written_frame_handed_on control payload out n sent w =
       let f = frame_out w in
       rw f.is (good_frame_handed_on control payload f.short)
 
 -- THEOREM. A frame that is handed on and not whole is refused by each call of `read_frame`, which leaves its output as it was.
-pub refused_by_the_reader : (frame out : List ℕ) (answer : FrameRead) (out₁ : List ℕ) → (r : Refusal (length out) frame) → Reads frame out answer out₁
-    → (answer ≡ read.Refused r.number) × (out₁ ≡ out)
+pub refused_by_the_reader : (frame out : List ℕ) (answer : Result Frame refusals.Refusal) (out₁ : List ℕ) → (r : Refusal (length out) frame) → Reads frame out answer out₁
+    → (answer ≡ Err r.reason) × (out₁ ≡ out)
 refused_by_the_reader frame out answer out₁ r call =
     let did = was_read call in
     (did.answers ∙ ap read_answer r.is, did.output ∙ ap (λ (found : reading.Read). put_at out 0 (read_payload found)) r.is)

@@ -7,6 +7,7 @@ use Prim.Native.Nat.{ℕ, ◌≤◌, ◌<◌}
 use native.Mathlib.Omega.{arith}
 use lib.ListN.{length, get_or, get_or-append}
 use Rattle.std.specs.Prelude.{Option, Some}
+use Rattle.refusals.specs.declared.Refusal as refusals
 use Rattle.ash.specs.Header.{frame_min}
 use Rattle.ash.specs.Size.{frame_size}
 use Rattle.ash.specs.Reading as reading
@@ -31,8 +32,8 @@ pub record Whole (frame : List ℕ) : Type 0 where
 
 -- the reader's refusal
 pub record Refusal (room : ℕ) (frame : List ℕ) : Type 0 where
-  pub number : ℕ
-  pub is : read_frame room frame ≡ reading.refused number
+  pub reason : refusals.Refusal
+  pub is : read_frame room frame ≡ reading.refused reason
 
 -- what is known of each frame that is handed on
 pub record Handed (frame : List ℕ) : Type 0 where
@@ -46,7 +47,7 @@ refused_unless room bytes untaken = by_result (read_frame room bytes) refl
   where
     by_result : (found : Read) → read_frame room bytes ≡ found → Refusal room bytes
     by_result (reading.frame control p) e = absurd (untaken control p e)
-    by_result (reading.refused n) e = record { number = n; is = e }
+    by_result (reading.refused n) e = record { reason = n; is = e }
 
 -- fewer than seven bytes, a bad header, and fewer bytes than the header says
 pub short_refused : (bytes : List ℕ) → length bytes < frame_min → (room : ℕ) → Refusal room bytes

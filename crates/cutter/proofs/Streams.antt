@@ -5,13 +5,13 @@ use mathlib.Core.List.{List, [], ◌∷◌, ◌++◌, append_assoc}
 use Prim.Native.Nat.{ℕ, zero, suc, ◌≤◌, ◌<◌}
 use native.Mathlib.Omega.{arith}
 use lib.ListN.{length, take, drop, replicate, length-drop, take-append-drop}
+use Rattle.std.specs.Prelude.{Option, None, Result, Ok}
+use Rattle.refusals.specs.declared.Refusal.{Refusal}
 use Rattle.slices.proofs.Impossible.{impossible}
 use Rattle.cutter.specs.Cutting.{Step, goes_on, hands_on, handed_on, frames_from, frames_of}
 use Rattle.ash.specs.Size.{frame_max}
 use Rattle.cutter.specs.Calls.{place_in, walk_of, Call, call_of, cut_of}
 use Rattle.cutter.specs.History.{Offer, Left, line_taken, all_frames, joined}
-use Rattle.cutter.specs.declared.state.Answer.{Answer}
-use Rattle.cutter.specs.declared.state.Answer.TheVariants.{Nothing}
 use Rattle.cutter.specs.declared.state.Cutter.{Cutter}
 use Rattle.cutter.specs.declared.state.Cut.{Cut}
 use Rattle.cutter.proofs.StreamLaws.{walk_takes}
@@ -21,13 +21,13 @@ use Rattle.cutter.proofs.CallAgreement.{takes_all}
 use Rattle.cutter.proofs.EveryList.{every_list, Alike, same_line}
 
 -- how much of its piece a call takes: all of it where no frame came of it, and nothing behind the byte that made one
-pub record CallTakes (cutter : Cutter) (piece : List ℕ) (taken : ℕ) (answer : Answer) : Type 0 where
+pub record CallTakes (cutter : Cutter) (piece : List ℕ) (taken : ℕ) (answer : Result (Option ℕ) Refusal) : Type 0 where
   pub most : taken ≤ length piece
   pub some : 1 ≤ length piece → 1 ≤ taken
   pub no_earlier : (k : ℕ) → k < taken → frames_from (place_in cutter) (take k piece) ≡ []
-  pub all : answer ≡ Nothing → taken ≡ length piece
+  pub all : answer ≡ Ok None → taken ≡ length piece
 
-no_frame : (step : Step) (n : ℕ) → (call_of step n).answer ≡ Nothing → handed_on step ≡ []
+no_frame : (step : Step) (n : ℕ) → (call_of step n).answer ≡ Ok None → handed_on step ≡ []
 no_frame (goes_on place) n e = refl
 no_frame (hands_on frame place) n e = impossible cc
 

@@ -1,6 +1,7 @@
 -- 02, C-21: a call of the cutter takes a piece of the line, with a buffer for a frame lent beside it.
-use Rattle.std.specs.Prelude.{ℕ, suc, ◌-◌, min, ◌≡◌, cond, List, [], ◌∷◌, ltb, length, take}
+use Rattle.std.specs.Prelude.{ℕ, suc, ◌-◌, min, ◌≡◌, cond, Option, Some, None, Result, Ok, Err, List, [], ◌∷◌, ltb, length, take}
 use Rattle.refusals.specs.Numbers.{short_output}
+use Rattle.refusals.specs.declared.Refusal.{Refusal}
 use Rattle.slices.specs.FixedBytes.{fixed_of}
 use Rattle.slices.specs.Put.{put_at}
 use Rattle.ash.specs.Size.{frame_max}
@@ -8,8 +9,6 @@ use Rattle.cutter.specs.Cutting.{Place, between, inside, passing, Step, goes_on,
 use Rattle.cutter.specs.declared.state.Place as kinds
 use Rattle.cutter.specs.declared.state.Place.TheVariants.{Between, Inside, Passing}
 use Rattle.cutter.specs.declared.state.Cutter.{Cutter}
-use Rattle.cutter.specs.declared.state.Answer.{Answer}
-use Rattle.cutter.specs.declared.state.Answer.TheVariants.{Nothing, Frame, Refused}
 use Rattle.cutter.specs.declared.state.Cut.{Cut}
 
 -- a frame under way has at most one byte less than the longest
@@ -54,19 +53,19 @@ walk_of (b ∷ bs) place n = go_on (step_of place b) (suc n) (λ place₁ n₁. 
 pub record Call : Type 0 where
   pub cutter : Cutter
   pub taken : ℕ
-  pub answer : Answer
+  pub answer : Result (Option ℕ) Refusal
   pub frame : List ℕ
 
 abbrev pub call_of : Step → ℕ → Call
-call_of (goes_on place) n = record { cutter = cutter_of place; taken = n; answer = Nothing; frame = [] }
-call_of (hands_on frame place) n = record { cutter = cutter_of place; taken = n; answer = Frame (length frame); frame = frame }
+call_of (goes_on place) n = record { cutter = cutter_of place; taken = n; answer = Ok None; frame = [] }
+call_of (hands_on frame place) n = record { cutter = cutter_of place; taken = n; answer = Ok (Some (length frame)); frame = frame }
 
 abbrev pub walk_call : Walk → Call
 walk_call walk = call_of walk.last walk.taken
 
 -- a buffer under 64 bytes is refusal 7: nothing is taken, nothing changed
 abbrev pub short_call : Cutter → Call
-short_call cutter = record { cutter = cutter; taken = 0; answer = Refused short_output; frame = [] }
+short_call cutter = record { cutter = cutter; taken = 0; answer = Err short_output; frame = [] }
 
 unfoldable pub cut_of : Cutter → List ℕ → ℕ → Call
 cut_of cutter piece room = cond (ltb room frame_max) (short_call cutter) (walk_call (walk_of piece (place_in cutter) 0))

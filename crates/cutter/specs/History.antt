@@ -1,7 +1,6 @@
 -- 02, C-21: lists of calls of the cutter: the bytes that they took of the line, and the frames that they handed on.
-use Rattle.std.specs.Prelude.{ℕ, List, [], ◌∷◌, ◌++◌, take}
-use Rattle.cutter.specs.declared.state.Answer.{Answer}
-use Rattle.cutter.specs.declared.state.Answer.TheVariants.{Nothing, Frame, Refused}
+use Rattle.std.specs.Prelude.{ℕ, Option, Some, None, Result, Ok, Err, List, [], ◌∷◌, ◌++◌, take}
+use Rattle.refusals.specs.declared.Refusal.{Refusal}
 
 -- what a call is lent: a piece of the line, and a buffer as it was
 pub record Offer : Type 0 where
@@ -11,7 +10,7 @@ pub record Offer : Type 0 where
 -- what it left: how many bytes it took, its answer, and the buffer as it is
 pub record Left : Type 0 where
   pub taken : ℕ
-  pub answer : Answer
+  pub answer : Result (Option ℕ) Refusal
   pub buffer : List ℕ
 
 -- the bytes that the calls took, in order. (A chain has what each call left beside the call; other pairs do not come.)
@@ -21,10 +20,10 @@ line_taken (o ∷ os) [] = []
 line_taken (o ∷ os) (l ∷ left) = take l.taken o.piece ++ line_taken os left
 
 -- a frame stands at the start of the buffer, as long as the answer says
-abbrev pub frame_left : Answer → List ℕ → List (List ℕ)
-frame_left Nothing buffer = []
-frame_left (Frame n) buffer = take n buffer ∷ []
-frame_left (Refused n) buffer = []
+abbrev pub frame_left : Result (Option ℕ) Refusal → List ℕ → List (List ℕ)
+frame_left (Ok None) buffer = []
+frame_left (Ok (Some n)) buffer = take n buffer ∷ []
+frame_left (Err r) buffer = []
 
 -- all frames of a list of calls, in order
 unfoldable pub all_frames : List Left → List (List ℕ)

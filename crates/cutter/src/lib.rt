@@ -8,9 +8,9 @@ mod walk;
 ghost use Rattle.std.specs.Prelude.{◌≡◌, length};
 ghost use Rattle.cutter.specs.Calls.{fresh_cutter, cut_of, CutsAs};
 
-use crate::state::{Answer, Cut, Cutter, HELD_MAX, Place, at_place};
+use crate::state::{Cut, Cutter, HELD_MAX, Place, at_place};
 use ash::{FLAG, FRAME_MAX};
-use refusals::SHORT_OUTPUT;
+use refusals::Refusal;
 use slices::FixedBytes;
 
 // The state before the first byte.
@@ -34,7 +34,7 @@ pub fn cut(cutter: Cutter, piece: &[u8], frame: &mut [u8]) -> Cut
         return Cut {
             cutter,
             taken: 0,
-            answer: Answer::Refused(SHORT_OUTPUT),
+            answer: Err(Refusal::ShortOutput),
         };
     }
     let mut line = cutter;
@@ -46,14 +46,14 @@ pub fn cut(cutter: Cutter, piece: &[u8], frame: &mut [u8]) -> Cut
         None => Cut {
             cutter: at_place(line.place, held),
             taken,
-            answer: Answer::Nothing,
+            answer: Ok(None),
         },
         Some(place) => {
             slices::put(frame, 0, held);
             Cut {
                 cutter: at_place(place, &[FLAG]),
                 taken,
-                answer: Answer::Frame(held.len()),
+                answer: Ok(Some(held.len())),
             }
         }
     }

@@ -3,12 +3,14 @@ ghost use Rattle.std.specs.Prelude.{◌≡◌};
 ghost use Rattle.cutter.specs.Calls.{place_of, cutter_of};
 
 use ash::FRAME_MAX;
+use refusals::Refusal;
 use slices::FixedBytes;
 
 // The most bytes that are held of a frame under way: one more ends it.
 pub(crate) const HELD_MAX: usize = FRAME_MAX - 1;
 
 // Where the line stands: between frames, in a frame, or in what is left of one at fault.
+// No Option: in each of the three a byte does something else.
 #[derive(Clone, Copy)]
 pub enum Place {
     Between,
@@ -23,19 +25,13 @@ pub struct Cutter {
     pub held: FixedBytes<FRAME_MAX>,
 }
 
-// What a call brought: no frame; one of so many bytes, at the start of the lent buffer; or a refusal.
-#[derive(Clone, Copy)]
-pub enum Answer {
-    Nothing,
-    Frame(usize),
-    Refused(u8),
-}
-
+// What a call brought: the bytes taken, and as its answer a refusal, no frame, or one of so many bytes at
+// the start of the lent buffer.
 #[derive(Clone, Copy)]
 pub struct Cut {
     pub cutter: Cutter,
     pub taken: usize,
-    pub answer: Answer,
+    pub answer: Result<Option<usize>, Refusal>,
 }
 
 // The state at a place, in a frame with these bytes of it.

@@ -10,8 +10,8 @@ use borrow.Author.Tests.{le-ltb, ltb-true, ltb-false}
 use Rattle.refusals.specs.Numbers.{bad_length}
 use Rattle.slices.specs.Put.{put_at}
 use Rattle.slices.specs.Written.{WritesAs}
-use Rattle.slices.specs.declared.Written.{Written}
-use Rattle.slices.specs.declared.Written.TheVariants as answer
+use Rattle.std.specs.Prelude.{Result, Ok, Err}
+use Rattle.refusals.specs.declared.Refusal.{Refusal}
 use Rattle.slices.proofs.Impossible.{impossible}
 use Rattle.slices.proofs.WrittenLaws.{told, refusal_keeps}
 use Rattle.ash.specs.Stuffing.{payload_max, stuff}
@@ -41,11 +41,11 @@ module _ (s : Session) (room : ℕ) where
   receive_goes bytes payload_room enough all = rw (le-ltb room output_room enough, le-ltb payload_room payload_max all)
 
 -- Data that is sent: the writer, which has room enough, refuses it just where the definition does.
-module _ (s : Session) (payload output : List ℕ) (enough : output_room ≤ length output) (control : ℕ) (result : Written) (after : List ℕ)
-    (did : WritesAs (write_frame (length output) control payload) output result after) (n : ℕ) where
-  pub data_refused : result ≡ answer.Refused n → (send_data s payload ≡ refused n) × (after ≡ output)
+module _ (s : Session) (payload output : List ℕ) (enough : output_room ≤ length output) (control : ℕ) (result : Result ℕ Refusal) (after : List ℕ)
+    (did : WritesAs (write_frame (length output) control payload) output result after) where
+  pub data_refused : (n : Refusal) → result ≡ Err n → (send_data s payload ≡ refused n) × (after ≡ output)
   unfolding send_data
-  data_refused is = (by_length (ltb payload_max (length (stuff payload))) refl, refusal_keeps _ output n after (rw is at did))
+  data_refused n is = (by_length (ltb payload_max (length (stuff payload))) refl, refusal_keeps _ output n after (rw is at did))
     where
       by_length : (t : Bool) → ltb payload_max (length (stuff payload)) ≡ t → cond t (refused bad_length) (given (send_given s payload)) ≡ refused n
       by_length true e =
@@ -59,10 +59,10 @@ module _ (s : Session) (payload output : List ℕ) (enough : output_room ≤ len
           let told = sym is ∙ rw fits at did.answers in
           impossible cc
 
-  pub data_sent : result ≡ answer.Length n → control ≡ control_byte Ack (next_of_ours s.counter) s.good
+  pub data_sent : (n : ℕ) → result ≡ Ok n → control ≡ control_byte Ack (next_of_ours s.counter) s.good
       → (send_data s payload ≡ given (send_given s payload)) × PutsAs (send_given s payload).frames output 0 n after
   unfolding send_data
-  data_sent is control-is =
+  data_sent n is control-is =
       let t = told (write_frame (length output) control payload) output n after (rw is at did) in
       let w = wrote_frame (length output) control payload t.bytes t.is in
       let bytes_are : frame_bytes control payload ≡ t.bytes = frame_taken control payload w.short ∙ sym w.is in

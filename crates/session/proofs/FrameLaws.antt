@@ -7,8 +7,8 @@ use native.Mathlib.Omega.{arith}
 use lib.ListN.{length, take, length-append}
 use Rattle.slices.specs.Put.{put_at}
 use Rattle.slices.specs.Written.{Output, written, refused, written_bytes, WritesAs}
-use Rattle.slices.specs.declared.Written.{Written}
-use Rattle.slices.specs.declared.Written.TheVariants as answer
+use Rattle.std.specs.Prelude.{Result, Ok}
+use Rattle.refusals.specs.declared.Refusal.{Refusal}
 use Rattle.slices.proofs.PutLaws.{put_append, put_told}
 use Rattle.slices.proofs.WrittenLaws.{told}
 use Rattle.ash.specs.Stuffing.{payload_max, stuff}
@@ -39,7 +39,7 @@ module _ (control : ℕ) (payload : List ℕ) where
       by_output (refused n) e = omega arith
 
   -- what the writer answered of an array that the longest frame fits
-  pub array_written : (array after : List ℕ) (n : ℕ) (result : Written) → length array ≡ frame_max → result ≡ answer.Length n
+  pub array_written : (array after : List ℕ) (n : ℕ) (result : Result ℕ Refusal) → length array ≡ frame_max → result ≡ Ok n
       → WritesAs (write_frame (length array) control payload) array result after
       → (n ≡ length (frame_bytes control payload)) × (take n after ≡ frame_bytes control payload)
   unfolding frame_bytes

@@ -3,13 +3,14 @@ use mathlib.Core.Path.{◌≡◌, refl, sym, ap, ◌∙◌}
 use mathlib.Core.List.{List}
 use Prim.Native.Nat.{ℕ}
 use lib.ListN.{length}
+use Rattle.refusals.specs.declared.Refusal.{Refusal}
 use Rattle.slices.specs.Put.{put_at}
 use Rattle.session.specs.Frames.{bytes_of}
 use Rattle.session.specs.Results.{Given, Result, refused, given, payload_handed, refusing, done, SendsAs, HandsAs, PutsAs}
 use Rattle.session.specs.declared.state.Outcome.{Outcome}
 use Rattle.session.specs.declared.state.Session.{Session}
 
-pub refuses : (s : Session) (result : Result) (n : ℕ) (output : List ℕ) (o : Outcome) → result ≡ refused n → o ≡ refusing s n
+pub refuses : (s : Session) (result : Result) (n : Refusal) (output : List ℕ) (o : Outcome) → result ≡ refused n → o ≡ refusing s n
     → SendsAs s result output o output
 unfolding bytes_of
 refuses s result n output o is told = rw is (record { answers = told; sends = refl })

@@ -4,9 +4,9 @@ use mathlib.Core.Bool.{Bool, true, false, cond}
 use mathlib.Core.List.{List, []}
 use Prim.Native.Nat.{ℕ}
 use lib.ListN.{length, take}
+use Rattle.std.specs.Prelude.{Ok}
 use Rattle.ash.specs.Reading.{read_frame}
-use Rattle.ash.specs.Answers.{ReadsAs}
-use Rattle.ash.specs.declared.reader.FrameRead.TheVariants as says
+use Rattle.ash.specs.Answers.{frame_read, ReadsAs}
 use Rattle.ash.proofs.Calls.{frame_found}
 use Rattle.session.specs.Control.{control_of}
 use Rattle.session.specs.State.{in_order}
@@ -29,6 +29,6 @@ unfolding reply_taken
 reply_heard_law s c payload again idle good = rw (idle, good)
 
 -- by what the reader of C-11 answered
-pub read_taken : (s : Session) (bytes array after : List ℕ) (control n : ℕ) → ReadsAs (read_frame (length array) bytes) array (says.Frame control n) after
+pub read_taken : (s : Session) (bytes array after : List ℕ) (control n : ℕ) → ReadsAs (read_frame (length array) bytes) array (Ok (frame_read control n)) after
     → heard s (read_frame (length array) bytes) ≡ frame_taken s (control_of control) (take n after)
 read_taken s bytes array after control n did = rw (frame_found bytes array control n after did)

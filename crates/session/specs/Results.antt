@@ -1,12 +1,13 @@
 -- What an event gives, how it is answered, and what it leaves in the lent buffers: what is sent or handed up stands at their start, all else
 -- stays.
-use Rattle.std.specs.Prelude.{ℕ, ◌≡◌, List, [], length}
+use Rattle.std.specs.Prelude.{ℕ, ◌≡◌, List, [], length, Ok, Err}
+use Rattle.refusals.specs.declared.Refusal.{Refusal}
 use Rattle.slices.specs.Put.{put_at}
 use Rattle.session.specs.Frames.{Sent, bytes_of}
 use Rattle.session.specs.declared.state.Held.{Held}
 use Rattle.session.specs.declared.state.Session.{Session}
 use Rattle.session.specs.declared.state.Outcome.{Outcome}
-use Rattle.session.specs.declared.state.Answer.TheVariants.{Refused, Done}
+use Rattle.session.specs.declared.state.Done.{Done}
 
 -- the session, the frames sent in order, the payload handed up, and the frames reported as dropped
 pub record Given : Type 0 where
@@ -16,7 +17,7 @@ pub record Given : Type 0 where
   pub dropped : Held
 
 pub data Result : Type 0 where
-  refused : ℕ → Result
+  refused : Refusal → Result
   given : Given → Result
 
 abbrev pub frames_sent : Result → List Sent
@@ -27,11 +28,14 @@ abbrev pub payload_handed : Result → List ℕ
 payload_handed (refused n) = []
 payload_handed (given g) = g.handed
 
-abbrev pub refusing : Session → ℕ → Outcome
-refusing s n = record { session = s; answer = Refused n }
+abbrev pub refusing : Session → Refusal → Outcome
+refusing s n = record { session = s; answer = Err n }
+
+abbrev pub gave : ℕ → ℕ → Held → Done
+gave sent payload dropped = record { sent = sent; payload = payload; dropped = dropped }
 
 abbrev pub done : Session → ℕ → ℕ → Held → Outcome
-done s sent payload dropped = record { session = s; answer = Done sent payload dropped }
+done s sent payload dropped = record { session = s; answer = Ok (gave sent payload dropped) }
 
 -- a refusal leaves the session as it was
 abbrev pub outcome_of : Session → Result → Outcome

@@ -9,7 +9,7 @@ use crate::control::{Kind, control_byte};
 use crate::counters::{AFC, OFC};
 use crate::state::{Held, Payload, Session};
 use ash::FRAME_MAX;
-use ash::writer::{Written, write_frame};
+use ash::writer::write_frame;
 
 // Puts an empty frame with the session's counters into `output` from the place `at` on, and answers
 // its length.
@@ -59,10 +59,10 @@ fn put_frame(control: u8, payload: &[u8], output: &mut [u8], at: usize) -> usize
 {
     let mut frame = [0u8; FRAME_MAX];
     match write_frame(control, payload, &mut frame) {
-        Written::Length(length) => {
+        Ok(length) => {
             slices::put(output, at, slices::first(&frame, length));
             length
         }
-        Written::Refused(_) => 0,
+        Err(_) => 0,
     }
 }

@@ -10,8 +10,8 @@ use crate::counters::{AFC, next_of_ours};
 use crate::frames::{put_empty, put_held};
 use crate::holding::{hold, holds_two, restart};
 use crate::state::{Held, NONE, Outcome, Session, finish, refuse};
-use ash::writer::{Written, write_frame};
-use refusals::{BAD_LENGTH, RESET_ACK_AWAITED, SHORT_OUTPUT, TWO_FRAMES_HELD};
+use ash::writer::write_frame;
+use refusals::Refusal;
 
 // Our RESET, allowed at any time: what is held is dropped, and the RESET ACK is awaited, anew too.
 // An output of under 135 bytes is refusal 7, here and in the other events.
@@ -20,7 +20,7 @@ pub fn reset(session: Session, output: &mut [u8]) -> Outcome
     ensures { SendsAs session (reset_of session (length output.old)) output.old result output.new }
 {
     if output.len() < OUTPUT_ROOM {
-        return refuse(session, SHORT_OUTPUT);
+        return refuse(session, Refusal::ShortOutput);
     }
     let next = restart(session, AFC(NONE), true);
     let sent = put_empty(Kind::Reset, next, output, 0);
@@ -34,16 +34,16 @@ pub fn send(session: Session, payload: &[u8], output: &mut [u8]) -> Outcome
     ensures { SendsAs session (send_of session payload.now (length output.old)) output.old result output.new }
 {
     if output.len() < OUTPUT_ROOM {
-        return refuse(session, SHORT_OUTPUT);
+        return refuse(session, Refusal::ShortOutput);
     }
     if session.awaiting {
-        return refuse(session, RESET_ACK_AWAITED);
+        return refuse(session, Refusal::ResetAckAwaited);
     }
     if holds_two(session.held) {
-        return refuse(session, TWO_FRAMES_HELD);
+        return refuse(session, Refusal::TwoFramesHeld);
     }
     if payload.is_empty() {
-        return refuse(session, BAD_LENGTH);
+        return refuse(session, Refusal::BadLength);
     }
     send_data(session, payload, output)
 }
@@ -55,8 +55,8 @@ fn send_data(session: Session, payload: &[u8], output: &mut [u8]) -> Outcome
     let number = next_of_ours(session.counter);
     let control = control_byte(Kind::Ack, number, session.good);
     match write_frame(control, payload, output) {
-        Written::Refused(refusal) => refuse(session, refusal),
-        Written::Length(length) => {
+        Err(refusal) => refuse(session, refusal),
+        Ok(length) => {
             let next = hold(session, number, payload);
             finish(next, length, 0, Held::Nothing)
         }
@@ -69,7 +69,7 @@ pub fn timeout(session: Session, output: &mut [u8]) -> Outcome
     ensures { SendsAs session (timeout_of session (length output.old)) output.old result output.new }
 {
     if output.len() < OUTPUT_ROOM {
-        return refuse(session, SHORT_OUTPUT);
+        return refuse(session, Refusal::ShortOutput);
     }
     let sent = put_held(session, output);
     finish(session, sent, 0, Held::Nothing)

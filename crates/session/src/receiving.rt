@@ -12,8 +12,8 @@ use crate::holding::{record_good, restart};
 use crate::replies::take_reply;
 use crate::state::{FIRST, Held, NONE, Outcome, SECOND, Session, finish, refuse};
 use ash::PAYLOAD_MAX;
-use ash::reader::{FrameRead, read_frame};
-use refusals::SHORT_OUTPUT;
+use ash::reader::{Frame, read_frame};
+use refusals::Refusal;
 
 // Takes the bytes of one frame. What goes out for it is put at the start of `output`, good data at
 // the start of `payload`. An output of under 135 bytes or a payload of under 57 is refusal 7; a frame
@@ -23,15 +23,15 @@ pub fn receive(session: Session, frame: &[u8], output: &mut [u8], payload: &mut 
     ensures { HandsAs session (receive_of session frame.now (length output.old) (length payload.old)) output.old payload.old result output.new payload.new }
 {
     if output.len() < OUTPUT_ROOM {
-        return refuse(session, SHORT_OUTPUT);
+        return refuse(session, Refusal::ShortOutput);
     }
     if payload.len() < PAYLOAD_MAX {
-        return refuse(session, SHORT_OUTPUT);
+        return refuse(session, Refusal::ShortOutput);
     }
     let mut read = [0u8; PAYLOAD_MAX];
     match read_frame(frame, &mut read) {
-        FrameRead::Refused(_) => answer_nack(session, output),
-        FrameRead::Frame { control, length } => {
+        Err(_) => answer_nack(session, output),
+        Ok(Frame { control, length }) => {
             let said = read_control(control);
             take_frame(session, said, slices::first(&read, length), output, payload)
         }

@@ -5,6 +5,7 @@ ghost use Rattle.session.specs.Results.{refusing, done};
 
 use crate::counters::{AFC, OFC};
 use ash::PAYLOAD_MAX;
+use refusals::Refusal;
 use slices::FixedBytes;
 
 // The number of a RESET, and so of our counter behind it.
@@ -20,7 +21,8 @@ pub(crate) const NONE: u8 = 0;
 pub type Payload = FixedBytes<PAYLOAD_MAX>;
 
 // The numbers of the frames that are held, oldest first; their data stands beside it, not in it, since a
-// report of dropped frames has the numbers alone.
+// report of dropped frames has the numbers alone. No Option: up to two are held, and two Options side by
+// side could hold a second without a first.
 #[derive(Clone, Copy)]
 pub enum Held {
     Nothing,
@@ -40,22 +42,19 @@ pub struct Session {
     pub newer: Payload,
 }
 
-// What an event gave: a refusal's number; or how many bytes were sent and, where it is not 0, how
-// many of payload were handed up, and the frames that were dropped.
+// What an event gave: how many bytes were sent and, where it is not 0, how many of payload were handed
+// up, and the frames that were dropped.
 #[derive(Clone, Copy)]
-pub enum Answer {
-    Refused(u8),
-    Done {
-        sent: usize,
-        payload: usize,
-        dropped: Held,
-    },
+pub struct Done {
+    pub sent: usize,
+    pub payload: usize,
+    pub dropped: Held,
 }
 
 #[derive(Clone, Copy)]
 pub struct Outcome {
     pub session: Session,
-    pub answer: Answer,
+    pub answer: Result<Done, Refusal>,
 }
 
 // A session before the first event: our RESET stands as sent, and its answer is awaited.
@@ -74,12 +73,12 @@ pub fn fresh() -> Session
 }
 
 // A refused event leaves the session as it was.
-pub(crate) fn refuse(session: Session, refusal: u8) -> Outcome
+pub(crate) fn refuse(session: Session, refusal: Refusal) -> Outcome
     ensures { result ≡ refusing session refusal }
 {
     Outcome {
         session,
-        answer: Answer::Refused(refusal),
+        answer: Err(refusal),
     }
 }
 
@@ -88,10 +87,10 @@ pub(crate) fn finish(session: Session, sent: usize, payload: usize, dropped: Hel
 {
     Outcome {
         session,
-        answer: Answer::Done {
+        answer: Ok(Done {
             sent,
             payload,
             dropped,
-        },
+        }),
     }
 }

@@ -6,7 +6,7 @@ use Rattle.ash.specs.Size.{frame_max}
 use Rattle.session.proofs.FrameLaws.{array_written}
 use Rattle.session.proofs.frames.put_frame.Goals as goal
 
-pub returns-in-Length : goal.returns-in-Length
-returns-in-Length c =
-    let did = array_written c.args.control c.args.payload.now (replicate frame_max 0) _ _ _ refl c.in-Length.is c.write_frame.ensures in
+pub returns-in-Ok : goal.returns-in-Ok
+returns-in-Ok c =
+    let did = array_written c.args.control c.args.payload.now (replicate frame_max 0) _ _ _ refl c.in-Ok.is c.write_frame.ensures in
     (did.0, c.put.ensures ∙ ap (put_at c.args.output.now c.args.at) (c.first.ensures ∙ did.1))

@@ -5,6 +5,8 @@ use mathlib.Core.List.{List, [], ◌∷◌, map}
 use Prim.Native.Nat.{ℕ, ◌≤◌}
 use native.Mathlib.Omega.{arith}
 use lib.ListN.{length}
+use Rattle.std.specs.Prelude as std
+use Rattle.refusals.specs.declared.Refusal.{Refusal}
 use Rattle.slices.specs.Put.{put_at}
 use Rattle.slices.proofs.PutLaws.{put_out}
 use Rattle.session.specs.Counters.{of_ours, of_peers}
@@ -12,7 +14,7 @@ use Rattle.session.specs.State.{Payload, fresh_session, kept}
 use Rattle.session.specs.declared.counters.OFC.{OFC}
 use Rattle.session.specs.Results.{Result, payload_handed, SendsAs, HandsAs}
 use Rattle.session.specs.declared.state.Held.{Held}
-use Rattle.session.specs.declared.state.Answer.{Answer}
+use Rattle.session.specs.declared.state.Done.{Done}
 use Rattle.session.specs.declared.state.Outcome.{Outcome}
 use Rattle.session.specs.declared.state.Session.{Session}
 use Rattle.conversation.specs.Ledger.{Ledger, Entry, start, on_line, held}
@@ -32,7 +34,7 @@ record Went (e : Event) (effect : Effect) (outcome : Outcome) (output₁ buffer�
   gives : left_by outcome output₁ buffer₁ ≡ leaves e effect.says
   agrees : Agrees effect.ledger outcome.session
 
-same_left : {a b : Answer} {o p h i : List ℕ} → a ≡ b → o ≡ p → h ≡ i
+same_left : {a b : std.Result Done Refusal} {o p h i : List ℕ} → a ≡ b → o ≡ p → h ≡ i
     → ◌≡◌ {A = Left} (record { answer = a; output = o; handed = h }) (record { answer = b; output = p; handed = i })
 same_left answer sent up = cc
 

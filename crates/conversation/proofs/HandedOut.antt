@@ -7,6 +7,7 @@ use mathlib.Core.Option.{Option, some, none}
 use Prim.Native.Nat.{ℕ, suc}
 use lib.Dec.{ltb, leb}
 use lib.ListN.{length}
+use Rattle.refusals.specs.declared.Refusal.{Refusal}
 use Rattle.refusals.specs.Numbers.{short_output, bad_length, reset_ack_awaited, two_frames_held}
 use Rattle.ash.specs.Stuffing.{payload_max}
 use Rattle.ash.specs.Reading as reading
@@ -100,7 +101,7 @@ one_more : (es : List Entry) (e : Entry) → payloads (es ++ (e ∷ [])) ≡ pay
 one_more [] e = refl
 one_more (d ∷ es) e = ap (λ (ps : List (List ℕ)). d.payload ∷ ps) (one_more es e)
 
-send_refused : (l : Ledger) (payload output : List ℕ) (n : ℕ) → HandsOut l (events.send payload output) (refusing l n)
+send_refused : (l : Ledger) (payload output : List ℕ) (n : Refusal) → HandsOut l (events.send payload output) (refusing l n)
 send_refused l payload output n = record { is = sym (append-nil (payloads l.entries)) }
 
 step_hands_out : (l : Ledger) (e : Event) → HandsOut l e (step l e)

@@ -7,6 +7,7 @@ use lib.ListN.{length}
 use Rattle.slices.specs.Put.{put_at}
 use Rattle.slices.specs.Each.{each}
 use Rattle.slices.specs.Same.{same_bytes}
+use Rattle.std.specs.Prelude.{Ok}
 use Rattle.slices.specs.Written.{fitted}
 use Rattle.crc.specs.Crc.{shift_bit, shift_bits, add_byte, crc_of}
 use Rattle.ash.specs.Reserved.{reserved}
@@ -20,12 +21,11 @@ use Rattle.session.specs.Counters.{of_ours, of_peers}
 use Rattle.session.specs.Control.{control_byte, control_of}
 use Rattle.session.specs.State.{output_room, fresh_session}
 use Rattle.session.specs.Frames.{frame_bytes, bytes_of}
-use Rattle.session.specs.Results.{Given, given, SendsAs, HandsAs}
+use Rattle.session.specs.Results.{gave, Given, given, SendsAs, HandsAs}
 use Rattle.session.specs.Events.{reset_given}
 use Rattle.session.specs.Receiving.{reset_heard, reset_taken, nacked, heard}
 use Rattle.session.specs.declared.control.Kind.{Kind}
 use Rattle.session.specs.declared.control.Kind.TheVariants.{Reset, ResetAck, Ack, Nack}
-use Rattle.session.specs.declared.state.Answer.TheVariants.{Done}
 use Rattle.session.specs.declared.state.Held.TheVariants.{Nothing}
 use Rattle.session.specs.declared.state.Outcome.{Outcome}
 use Rattle.session.specs.declared.state.Session.{Session}
@@ -60,19 +60,19 @@ known_heard s = (refl, refl)
 -- by the contracts: the bytes of the frames that an event gives are counted and put, and its payload is handed up
 module _ (s : Session) (g : Given) (bytes : List ℕ) (is : bytes_of g.frames ≡ bytes) where
   sent_alone : (output : List ℕ) (outcome : Outcome) (output₁ : List ℕ) → SendsAs s (given g) output outcome output₁
-      → (outcome.answer ≡ Done (length bytes) (length g.handed) g.dropped) × (output₁ ≡ put_at output 0 bytes)
+      → (outcome.answer ≡ Ok (gave (length bytes) (length g.handed) g.dropped)) × (output₁ ≡ put_at output 0 bytes)
   sent_alone output outcome output₁ did =
-      (ap (λ (o : Outcome). o.answer) did.answers ∙ ap (λ (l : List ℕ). Done (length l) (length g.handed) g.dropped) is, did.sends ∙ ap (put_at output 0) is)
+      (ap (λ (o : Outcome). o.answer) did.answers ∙ ap (λ (l : List ℕ). Ok (gave (length l) (length g.handed) g.dropped)) is, did.sends ∙ ap (put_at output 0) is)
 
   sent_and_handed : (output buffer : List ℕ) (outcome : Outcome) (output₁ buffer₁ : List ℕ) → HandsAs s (given g) output buffer outcome output₁ buffer₁
-      → (outcome.answer ≡ Done (length bytes) (length g.handed) g.dropped) × (output₁ ≡ put_at output 0 bytes) × (buffer₁ ≡ put_at buffer 0 g.handed)
+      → (outcome.answer ≡ Ok (gave (length bytes) (length g.handed) g.dropped)) × (output₁ ≡ put_at output 0 bytes) × (buffer₁ ≡ put_at buffer 0 g.handed)
   sent_and_handed output buffer outcome output₁ buffer₁ did =
       let told = sent_alone output outcome output₁ (record { answers = did.answers; sends = did.sends }) in
       (told.0, told.1, did.hands_up)
 
 -- THEOREM. A call of `reset`, whatever the session, puts RESET at the start of the output, hands up nothing and reports the held frames.
 pub known_reset : (s : Session) (output : List ℕ) (outcome : Outcome) (output₁ : List ℕ) → Resets s output outcome output₁ → output_room ≤ length output
-    → (outcome.answer ≡ Done 7 0 s.held) × (output₁ ≡ put_at output 0 reset_frame)
+    → (outcome.answer ≡ Ok (gave 7 0 s.held)) × (output₁ ≡ put_at output 0 reset_frame)
 known_reset s output outcome output₁ call enough =
     sent_alone s (reset_given s) reset_frame (known_sent s).0 output outcome output₁ (rw (reset_goes s (length output) enough) at (was_reset call))
 
@@ -80,14 +80,14 @@ module _ (s : Session) (output buffer : List ℕ) (outcome : Outcome) (output₁
     (all : payload_max ≤ length buffer) where
   -- THEOREM. A call of `receive` that is lent RESET, whatever the session, answers it with RESET ACK, hands up nothing and reports the held frames.
   pub known_reset_heard : Receives s reset_frame output buffer outcome output₁ buffer₁
-      → (outcome.answer ≡ Done 7 0 s.held) × (output₁ ≡ put_at output 0 reset_ack_frame) × (buffer₁ ≡ buffer)
+      → (outcome.answer ≡ Ok (gave 7 0 s.held)) × (output₁ ≡ put_at output 0 reset_ack_frame) × (buffer₁ ≡ buffer)
   known_reset_heard call =
       let goes = receive_goes s (length output) reset_frame (length buffer) enough all ∙ ap given (known_heard s).0 in
       sent_and_handed s (reset_heard s) reset_ack_frame (known_sent s).1 output buffer outcome output₁ buffer₁ (rw goes at (was_received call))
 
   -- THEOREM. A call of `receive` in a fresh session that is lent no bytes answers them with NACK 1/0, and hands up and reports nothing.
   pub known_nack : Starts s → Receives s [] output buffer outcome output₁ buffer₁
-      → (outcome.answer ≡ Done 7 0 Nothing) × (output₁ ≡ put_at output 0 nack_frame) × (buffer₁ ≡ buffer)
+      → (outcome.answer ≡ Ok (gave 7 0 Nothing)) × (output₁ ≡ put_at output 0 nack_frame) × (buffer₁ ≡ buffer)
   known_nack begins call =
       let goes = receive_goes s (length output) [] (length buffer) enough all ∙ ap given (known_heard s).1 in
       sent_and_handed s (nacked s) nack_frame (rw begins (known_sent s).2) output buffer outcome output₁ buffer₁ (rw goes at (was_received call))

@@ -4,6 +4,7 @@ use mathlib.Core.Path.{◌≡◌, refl}
 use mathlib.Core.Bool.{Bool, true, false, cond}
 use mathlib.Core.List.{List}
 use Prim.Native.Nat.{ℕ}
+use Rattle.refusals.specs.declared.Refusal.{Refusal}
 use Rattle.slices.proofs.Impossible.{impossible}
 use Rattle.session.specs.Frames.{bytes_of}
 use Rattle.session.specs.Results.{Given, Result, refused, given, frames_sent, payload_handed, outcome_of}
@@ -22,7 +23,7 @@ pub record Matches (s : Session) (e : Effect) (r : Result) : Type 0 where
   pub agrees : Agrees e.ledger (outcome_of s r).session
 
 module _ (s : Session) where
-  pub refusal_matches : (l : Ledger) (n : ℕ) → Agrees l s → Matches s (refusing l n) (refused n)
+  pub refusal_matches : (l : Ledger) (n : Refusal) → Agrees l s → Matches s (refusing l n) (refused n)
   unfolding bytes_of line_of
   refusal_matches l n a = record { answers = refl; sends = refl; hands_up = refl; agrees = a }
 

@@ -3,13 +3,14 @@ use mathlib.Core.Path.{◌≡◌, refl, sym, ap, ◌∙◌}
 use mathlib.Core.List.{List, []}
 use Prim.Native.Nat.{ℕ}
 use lib.ListN.{length}
+use Rattle.std.specs.Prelude.{Err}
+use Rattle.refusals.specs.declared.Refusal.{Refusal}
 use Rattle.slices.specs.Put.{put_at}
 use Rattle.slices.proofs.Impossible.{impossible}
 use Rattle.session.specs.Frames.{bytes_of}
 use Rattle.session.specs.Results.{Result, refused, given, frames_sent, payload_handed, outcome_of}
 use Rattle.session.specs.Events.{reset_of, send_of, timeout_of}
 use Rattle.session.specs.Receiving.{receive_of}
-use Rattle.session.specs.declared.state.Answer.TheVariants.{Refused}
 use Rattle.session.specs.declared.state.Outcome.{Outcome}
 use Rattle.session.specs.declared.state.Session.{Session}
 use Rattle.conversation.proofs.Chain.{Resets, Sends, TimesOut, Receives, was_reset, was_sent, was_timeout, was_received}
@@ -20,12 +21,12 @@ record Unchanged (s : Session) (r : Result) : Type 0 where
   sent : bytes_of (frames_sent r) ≡ []
   handed : payload_handed r ≡ []
 
-refusal : (s : Session) (r : Result) (n : ℕ) → (outcome_of s r).answer ≡ Refused n → Unchanged s r
+refusal : (s : Session) (r : Result) (n : Refusal) → (outcome_of s r).answer ≡ Err n → Unchanged s r
 unfolding bytes_of
 refusal s (refused m) n is = record { session_is = refl; sent = refl; handed = refl }
 refusal s (given g) n is = impossible cc
 
-module _ (s : Session) (r : Result) (outcome : Outcome) (answers : outcome ≡ outcome_of s r) (n : ℕ) (is : outcome.answer ≡ Refused n) where
+module _ (s : Session) (r : Result) (outcome : Outcome) (answers : outcome ≡ outcome_of s r) (n : Refusal) (is : outcome.answer ≡ Err n) where
   kept : Unchanged s r
   kept = refusal s r n (ap (λ (o : Outcome). o.answer) (sym answers) ∙ is)
 
@@ -38,7 +39,7 @@ module _ (s : Session) (r : Result) (outcome : Outcome) (answers : outcome ≡ o
   buffer_kept : (buffer buffer₁ : List ℕ) → buffer₁ ≡ put_at buffer 0 (payload_handed r) → buffer₁ ≡ buffer
   buffer_kept buffer buffer₁ put = put ∙ ap (put_at buffer 0) kept.handed
 
-module _ (s : Session) (output : List ℕ) (outcome : Outcome) (output₁ : List ℕ) (n : ℕ) (is : outcome.answer ≡ Refused n) where
+module _ (s : Session) (output : List ℕ) (outcome : Outcome) (output₁ : List ℕ) (n : Refusal) (is : outcome.answer ≡ Err n) where
   -- THEOREM. A call of `reset`, of `timeout` or of `send` that answered a refusal left session and output as they were.
   pub refused_reset : Resets s output outcome output₁ → (outcome.session ≡ s) × (output₁ ≡ output)
   refused_reset call =

@@ -4,11 +4,13 @@ use mathlib.Core.Path.{◌≡◌, ap}
 use mathlib.Core.List.{List, [], ◌∷◌}
 use Prim.Native.Nat.{ℕ, ◌≤◌}
 use lib.ListN.{length, take}
+use Rattle.std.specs.Prelude.{Result, Ok}
+use Rattle.refusals.specs.declared.Refusal.{Refusal}
 use Rattle.slices.specs.Put.{put_at}
 use Rattle.slices.proofs.PutLaws.{put_first}
 use Rattle.ash.specs.Stuffing.{payload_max, stuff}
-use Rattle.ash.specs.declared.reader.FrameRead.{FrameRead}
-use Rattle.ash.specs.declared.reader.FrameRead.TheVariants as read
+use Rattle.ash.specs.Answers.{frame_read}
+use Rattle.ash.specs.declared.reader.Frame.{Frame}
 use Rattle.ash.proofs.FrameTheorems.{frame_read_back}
 use Rattle.ash.proofs.Calls.{Reads}
 use Rattle.ash.proofs.FrameCalls.{call_reads}
@@ -31,8 +33,8 @@ use Rattle.conversation.proofs.LineSize.{right_short, line_fits, payload_fits}
 -- What C-11's reader makes of a frame: the type, the two counters as they are on the line, and the payload.
 pub record ReadAs (f : Sent) : Type 0 where
   pub control : control_of (control_on f) ≡ record { kind = f.kind; number = of_peers (on_line f.ofc); acknowledged = of_ours (on_line f.afc) }
-  pub reads : (before : List ℕ) (answer : FrameRead) (after : List ℕ) → payload_max ≤ length before → Reads (frame_on f) before answer after
-      → (answer ≡ read.Frame (control_on f) (length f.payload)) × (after ≡ put_at before 0 f.payload)
+  pub reads : (before : List ℕ) (answer : Result Frame Refusal) (after : List ℕ) → payload_max ≤ length before → Reads (frame_on f) before answer after
+      → (answer ≡ Ok (frame_read (control_on f) (length f.payload))) × (after ≡ put_at before 0 f.payload)
 
 read_as : (f : Sent) → length (stuff f.payload) ≤ payload_max → ReadAs f
 read_as f short =

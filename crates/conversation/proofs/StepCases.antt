@@ -7,6 +7,7 @@ use Prim.Native.Nat.{ℕ, ◌≤◌}
 use lib.Dec.{ltb, leb}
 use lib.ListN.{length}
 use Rattle.refusals.specs.Numbers.{bad_length, two_frames_held, reset_ack_awaited, short_output}
+use Rattle.refusals.specs.declared.Refusal.{Refusal}
 use Rattle.ash.specs.Stuffing.{payload_max}
 use Rattle.ash.specs.Reading as reading
 use Rattle.ash.specs.Reading.{read_frame}
@@ -28,7 +29,7 @@ abbrev pub replied : Ledger → Control → List ℕ → Ledger
 replied l c payload = hear l (good_next l payload) (cover c.acknowledged.0 l.entries)
 
 pub record Cases (l : Ledger) (P : Effect → Type 0) : Type 0 where
-  pub refuses : (n : ℕ) → P (refusing l n)
+  pub refuses : (n : Refusal) → P (refusing l n)
   pub resets : P (restarting Reset l 0 true)
   pub accepts : (payload : List ℕ) → l.awaiting ≡ false → leb 2 (length (held l.entries)) ≡ false → sendable payload ≡ true → P (accepting l payload)
   pub times_out : P (saying l (repeats l) [] [])

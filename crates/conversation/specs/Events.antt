@@ -1,6 +1,7 @@
 -- 02, C-21: the events, and what the ledger says of each: a refusal; or the frames sent in order, the payload handed up, and the numbers of the
 -- frames reported as dropped.
 use Rattle.std.specs.Prelude.{ℕ, List, [], ◌∷◌, ◌++◌}
+use Rattle.refusals.specs.declared.Refusal.{Refusal}
 use Rattle.ash.specs.Writing.{frame_of}
 use Rattle.session.specs.Counters.{of_ours, of_peers}
 use Rattle.session.specs.Control.{control_byte}
@@ -33,7 +34,7 @@ line_of [] = []
 line_of (f ∷ fs) = frame_on f ++ line_of fs
 
 pub data Told : Type 0 where
-  refused : ℕ → Told
+  refused : Refusal → Told
   told : (frames : List Sent) (handed : List ℕ) (dropped : List ℕ) → Told
 
 pub record Effect : Type 0 where

@@ -1,6 +1,7 @@
 -- 02, C-21: what our reset and our data do to the ledger, and which frames they send.
 use Rattle.std.specs.Prelude.{ℕ, suc, Bool, cond, ◌&&◌, List, [], ◌∷◌, ◌++◌, map, ltb, leb, length}
 use Rattle.refusals.specs.Numbers.{bad_length, reset_ack_awaited, two_frames_held}
+use Rattle.refusals.specs.declared.Refusal.{Refusal}
 use Rattle.ash.specs.Stuffing.{payload_max, stuff}
 use Rattle.session.specs.declared.control.Kind.{Kind}
 use Rattle.session.specs.declared.control.Kind.TheVariants.{Ack}
@@ -8,7 +9,7 @@ use Rattle.conversation.specs.Ledger.{Ledger, Entry, handed_out_now, held, drop_
 use Rattle.conversation.specs.Events.{Sent, Effect, refused, told}
 
 -- a refused event is no part of the conversation
-abbrev pub refusing : Ledger → ℕ → Effect
+abbrev pub refusing : Ledger → Refusal → Effect
 refusing l n = record { ledger = l; says = refused n }
 
 abbrev pub saying : Ledger → List Sent → List ℕ → List ℕ → Effect

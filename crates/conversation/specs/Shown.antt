@@ -1,14 +1,15 @@
 -- How the code says what the ledger says: its answer, and the bytes left in the buffers that were lent.
-use Rattle.std.specs.Prelude.{ℕ, List, [], ◌∷◌, ◌++◌, length}
+use Rattle.std.specs.Prelude.{ℕ, Result, Ok, Err, List, [], ◌∷◌, ◌++◌, length}
+use Rattle.refusals.specs.declared.Refusal.{Refusal}
 use Rattle.slices.specs.Put.{put_at}
 use Rattle.session.specs.Counters.{of_ours}
 use Rattle.session.specs.State.{kept}
+use Rattle.session.specs.Results.{gave}
 use Rattle.session.specs.declared.counters.OFC.{OFC}
 use Rattle.session.specs.declared.state.Held.{Held}
 use Rattle.session.specs.declared.state.Held.TheVariants.{Nothing, One, Two}
 use Rattle.session.specs.declared.state.Session.{Session}
-use Rattle.session.specs.declared.state.Answer.{Answer}
-use Rattle.session.specs.declared.state.Answer.TheVariants.{Refused, Done}
+use Rattle.session.specs.declared.state.Done.{Done}
 use Rattle.conversation.specs.Ledger.{Ledger, Entry, on_line}
 use Rattle.conversation.specs.Events.{Event, reset, send, receive, timeout, Told, refused, told, frames_in, handed_in, line_of}
 use Rattle.conversation.specs.Steps.{step}
@@ -19,13 +20,13 @@ as_held [] = Nothing
 as_held (a ∷ []) = One (of_ours (on_line a))
 as_held (a ∷ b ∷ more) = Two (of_ours (on_line a)) (of_ours (on_line b))
 
-abbrev pub as_answer : Told → Answer
-as_answer (refused n) = Refused n
-as_answer (told frames handed dropped) = Done (length (line_of frames)) (length handed) (as_held dropped)
+abbrev pub as_answer : Told → Result Done Refusal
+as_answer (refused n) = Err n
+as_answer (told frames handed dropped) = Ok (gave (length (line_of frames)) (length handed) (as_held dropped))
 
 -- what a call answered, and the output and the payload buffer as it left them; where none is lent it is empty
 pub record Left : Type 0 where
-  pub answer : Answer
+  pub answer : Result Done Refusal
   pub output : List ℕ
   pub handed : List ℕ
 
@@ -68,9 +69,9 @@ abbrev pub as_kept : Entry → Kept
 as_kept e = record { number = of_ours (on_line e.number); payload = e.payload }
 
 -- the data of the sends that were accepted, in order, read off the answers
-abbrev pub accepted_of : Answer → List ℕ → List (List ℕ)
-accepted_of (Refused n) payload = []
-accepted_of (Done sent handed dropped) payload = payload ∷ []
+abbrev pub accepted_of : Result Done Refusal → List ℕ → List (List ℕ)
+accepted_of (Err n) payload = []
+accepted_of (Ok d) payload = payload ∷ []
 
 abbrev pub accepted_in : Event → Left → List (List ℕ)
 accepted_in (reset output) left = []
@@ -89,9 +90,9 @@ reported_by Nothing = []
 reported_by (One older) = older ∷ []
 reported_by (Two older newer) = older ∷ newer ∷ []
 
-abbrev pub reported_in : Answer → List OFC
-reported_in (Refused n) = []
-reported_in (Done sent handed dropped) = reported_by dropped
+abbrev pub reported_in : Result Done Refusal → List OFC
+reported_in (Err n) = []
+reported_in (Ok d) = reported_by d.dropped
 
 unfoldable pub reported : List Left → List OFC
 reported [] = []

@@ -5,8 +5,7 @@
 // The keys: `w` writes a frame, `r` reads one. The first byte of both is the length of the lent output,
 // at most 80. Behind it stand, for `w`, the control byte and the payload, for `r` the bytes of the frame.
 // Before each call the output holds ee.
-use ash::reader::FrameRead;
-use ash::writer::Written;
+use ash::reader::Frame;
 use cases::buffer::UNTOUCHED;
 use cases::{line, print};
 
@@ -36,8 +35,8 @@ fn show_written(rt: &impl Print, line: &[u8], bytes: &[u8], out: &mut [u8]) {
     };
     line::label(rt, line);
     match ash::writer::write_frame(*control, payload, out) {
-        Written::Length(length) => print::number(rt, b": length ", length as u64),
-        Written::Refused(refusal) => print::number(rt, b": refused ", refusal as u64),
+        Ok(length) => print::number(rt, b": length ", length as u64),
+        Err(refusal) => print::number(rt, b": refused ", refusal.number() as u64),
     }
     show_output(rt, out);
 }
@@ -45,11 +44,11 @@ fn show_written(rt: &impl Print, line: &[u8], bytes: &[u8], out: &mut [u8]) {
 fn show_read(rt: &impl Print, line: &[u8], bytes: &[u8], out: &mut [u8]) {
     line::label(rt, line);
     match ash::reader::read_frame(bytes, out) {
-        FrameRead::Frame { control, length } => {
+        Ok(Frame { control, length }) => {
             print::number(rt, b": control ", control as u64);
             print::number(rt, b" length ", length as u64);
         }
-        FrameRead::Refused(refusal) => print::number(rt, b": refused ", refusal as u64),
+        Err(refusal) => print::number(rt, b": refused ", refusal.number() as u64),
     }
     show_output(rt, out);
 }

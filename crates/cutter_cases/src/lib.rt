@@ -6,7 +6,7 @@
 // lent buffer, at most 80, and behind it stands the piece. Before each piece the buffer holds ee.
 use cases::buffer::UNTOUCHED;
 use cases::{line, print};
-use cutter::state::{Answer, Cut, Cutter};
+use cutter::state::{Cut, Cutter};
 
 // The longest buffer that is lent.
 const FRAME_ROOM: usize = 80;
@@ -42,12 +42,12 @@ fn cut(rt: &impl Print, state: Cutter, line: &[u8], piece: &[u8], frame: &mut [u
 fn show(rt: &impl Print, brought: Cut) {
     let taken = brought.taken as u64;
     match brought.answer {
-        Answer::Refused(refusal) => {
-            print::number(rt, b": refused ", refusal as u64);
+        Err(refusal) => {
+            print::number(rt, b": refused ", refusal.number() as u64);
             print::number(rt, b" taken ", taken);
         }
-        Answer::Nothing => print::number(rt, b": taken ", taken),
-        Answer::Frame(length) => {
+        Ok(None) => print::number(rt, b": taken ", taken),
+        Ok(Some(length)) => {
             print::number(rt, b": taken ", taken);
             print::number(rt, b" frame ", length as u64);
         }

@@ -1,17 +1,19 @@
 // Answers and sessions as text.
 use cases::{line, print};
 use session::counters::OFC;
-use session::state::{Answer, Held, Outcome, Payload, Session};
+use session::state::{Done, Held, Outcome, Payload, Session};
 
 pub(crate) fn show_answer(rt: &impl Print, line: &[u8], outcome: Outcome) {
     line::label(rt, line);
     match outcome.answer {
-        Answer::Refused(refusal) => print::number(rt, b": refused ", refusal as u64),
-        Answer::Done {
-            sent,
-            payload,
-            dropped,
-        } => {
+        Err(refusal) => print::number(rt, b": refused ", refusal.number() as u64),
+        Ok(
+            Done {
+                sent,
+                payload,
+                dropped,
+            },
+        ) => {
             print::number(rt, b": sent ", sent as u64);
             print::number(rt, b" payload ", payload as u64);
             print::text(rt, b" dropped");

@@ -1,6 +1,6 @@
 -- A new packet fits the packet buffer of a call that was not refused: it is the payload of content of at most 387 bytes, and no
 -- other answer brings a packet. So the part of the buffer that the board reads is the packet.
-use Rattle.std.proofs.Common.{Option}
+use Rattle.std.proofs.Common.{Option, None, Some, Ok, Err}
 use mathlib.Core.Path.{◌≡◌, refl, sym, ap, ◌∙◌}
 use mathlib.Core.Bool.{Bool, true, false, cond}
 use mathlib.Core.List.{List}
@@ -21,13 +21,13 @@ use Rattle.link.specs.Closing.{reply_room, repeats, Outcome, acknowledgement_fra
 use Rattle.link.specs.Receiving.{walk_call, receive_of}
 use Rattle.link.specs.Walk.{walk_of}
 use Rattle.link.specs.declared.counts.Counts.{Counts}
-use Rattle.link.specs.declared.reader.Ended.{Ended}
-use Rattle.link.specs.declared.reader.Ended.TheVariants as ends
+use Rattle.link.specs.Reader.{Ended}
 use Rattle.link.specs.declared.receiver.Answer.TheVariants as says
 use Rattle.link.specs.declared.receiver.Link.{Link}
 use Rattle.link.proofs.ReceivingLaws.{short_reply, short_packet, room_for_both}
 use Rattle.link.proofs.WalkLaws.{walk_length}
 use Rattle.refusals.specs.Numbers.{unknown_type}
+use Rattle.refusals.specs.declared.Refusal.{Refusal}
 
 -- the length that is answered is that of the packet, and it is within the limit
 pub record Handed (packet : List ℕ) (n limit : ℕ) : Type 0 where
@@ -38,7 +38,7 @@ pub record Handed (packet : List ℕ) (n limit : ℕ) : Type 0 where
 abbrev no_packet : Outcome → Type 0
 no_packet o = (r n : ℕ) → o.answer ≡ says.New r n → ⊥
 
-refused_none : (number place : ℕ) (previous : Option ℕ) (before : Counts) → no_packet (refused_frame number place previous before)
+refused_none : (number : Refusal) (place : ℕ) (previous : Option ℕ) (before : Counts) → no_packet (refused_frame number place previous before)
 refused_none number place previous before r n e = impossible cc
 
 heard_none : (sequence size : ℕ) (previous : Option ℕ) (before : Counts) → no_packet (acknowledgement_frame sequence size previous before)
@@ -83,9 +83,9 @@ module _ (previous : Option ℕ) (before : Counts) (r n : ℕ) where
 
   close_handed : (end : Ended) (array : List ℕ) → length array ≡ content_max → (close_of end array previous before).answer ≡ says.New r n
       → Handed (close_of end array previous before).packet n payload_max
-  close_handed ends.Nothing array full e = impossible cc
-  close_handed (ends.Refused number place) array full e = absurd (refused_none number place previous before r n e)
-  close_handed (ends.Content k) array full e =
+  close_handed (Ok None) array full e = impossible cc
+  close_handed (Err fault) array full e = absurd (refused_none fault.refusal fault.place previous before r n e)
+  close_handed (Ok (Some k)) array full e =
       frame_handed (take k array) (simp length-take (omega arith)) e
 
 -- a call that answers a new packet hands it out whole

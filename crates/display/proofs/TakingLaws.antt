@@ -18,7 +18,7 @@ use Rattle.display.specs.Taking.{Takes}
 
 pub taken_by_link : (answer : link_answer.Answer) (sender : Sender) (board : Board) (call : Call) → (result_of answer sender board call).taken ≡ call.taken
 taken_by_link link_answer.TheVariants.Nothing sender board call = refl
-taken_by_link (link_answer.TheVariants.Refused n place) sender board call = refl
+taken_by_link (link_answer.TheVariants.Refused fault) sender board call = refl
 taken_by_link (link_answer.TheVariants.Heard sequence) sender board call = refl
 taken_by_link (link_answer.TheVariants.Again reply) sender board call = refl
 taken_by_link (link_answer.TheVariants.New reply packet) sender board call = refl

@@ -1,10 +1,11 @@
 -- 01, The receiver and The board, and 02, C-13, the sender: what a piece and a tick do to the three together, as the display runs them.
-use Rattle.std.specs.Prelude.{ℕ, ◌≡◌, List}
+use Rattle.std.specs.Prelude.{ℕ, ◌≡◌, List, Result, Ok, Err}
+use Rattle.refusals.specs.declared.Refusal.{Refusal}
 use Rattle.slices.specs.Put.{put_at}
 use Rattle.rows.specs.Rows.{tick_board}
 use Rattle.rows.specs.declared.Board.{Board}
 use Rattle.board.specs.Reading.{read_board}
-use Rattle.board.specs.declared.reading.Answer as board_answer
+use Rattle.board.specs.declared.reading.Done.{Done}
 use Rattle.board.specs.declared.reading.Reading.{Reading}
 use Rattle.link.specs.Receiving.{Call, receive_of, fresh_link, with_unread_packet}
 use Rattle.link.specs.declared.receiver.Link.{Link}
@@ -18,10 +19,9 @@ use Rattle.display.specs.declared.Answer.TheVariants as says
 use Rattle.display.specs.declared.Received.{Received}
 
 -- 01, Refusal numbers: a packet refused by the board adds one to the unread count
-abbrev pub count_reading : Link → board_answer.Answer → Link
-count_reading state (board_answer.TheVariants.Refused n) = with_unread_packet state
-count_reading state (board_answer.TheVariants.EndMark id) = state
-count_reading state (board_answer.TheVariants.Updated row id) = state
+abbrev pub count_reading : Link → Result Done Refusal → Link
+count_reading state (Err n) = with_unread_packet state
+count_reading state (Ok done) = state
 
 -- a call that brought no new packet leaves the board as it was
 abbrev pub keep_board : link_received.Received → Sender → Board → declared.Answer → Received
@@ -49,7 +49,7 @@ received call = record { link = call.link; taken = call.taken; answer = call.ans
 -- by the link's answer. 02, C-13: a heard acknowledgement of its sequence frees the held frame; nothing else in a piece concerns the sender
 abbrev pub result_of : link_answer.Answer → Sender → Board → Call → Received
 result_of link_answer.TheVariants.Nothing sender board call = keep_board (received call) sender board says.Nothing
-result_of (link_answer.TheVariants.Refused n place) sender board call = keep_board (received call) sender board (says.Refused n place)
+result_of (link_answer.TheVariants.Refused fault) sender board call = keep_board (received call) sender board (says.Refused fault)
 result_of (link_answer.TheVariants.Heard sequence) sender board call =
     keep_board (received call) (acknowledged sender sequence) board (says.Heard sequence)
 result_of (link_answer.TheVariants.Again reply) sender board call = keep_board (received call) sender board (says.Again reply)

@@ -6,7 +6,9 @@ mod sending;
 ghost use Rattle.std.specs.Prelude.{◌≡◌, length};
 ghost use Rattle.display.specs.Display.{count_reading, take_reading, keep_board, fresh, tick_display, receive_piece, DisplaysAs};
 
+use frame::content::Fault;
 use link::receiver::{self, Link, count_unread};
+use refusals::Refusal;
 use rows::Board;
 use sender::Sender;
 pub use sending::{Outgoing, send, timeout};
@@ -18,22 +20,19 @@ pub struct Display {
     pub board: Board,
 }
 
-// What a piece brought: no frame; a refusal's number and its place; the sequence of an
+// What a piece brought: no frame; a refusal and its place; the sequence of an
 // acknowledgement; the length of the reply to a data frame that came again; or the lengths of a new
 // one's reply and payload, and what the board read in it.
 #[derive(Clone, Copy)]
 pub enum Answer {
     Nothing,
-    Refused {
-        number: u8,
-        place: usize,
-    },
+    Refused(Fault),
     Heard(u8),
     Again(usize),
     New {
         reply: usize,
         packet: usize,
-        reading: board::Answer,
+        reading: Result<board::Done, Refusal>,
     },
 }
 
@@ -86,9 +85,7 @@ pub fn receive(display: Display, piece: &[u8], reply: &mut [u8], packet: &mut [u
             hand_up(behind, taken, replied, length, reading)
         }
         receiver::Answer::Nothing => keep(behind, taken, Answer::Nothing),
-        receiver::Answer::Refused { number, place } => {
-            keep(behind, taken, Answer::Refused { number, place })
-        }
+        receiver::Answer::Refused(fault) => keep(behind, taken, Answer::Refused(fault)),
         receiver::Answer::Heard(sequence) => {
             let sender = sender::acknowledge(behind.sender, sequence);
             keep(Display { sender, ..behind }, taken, Answer::Heard(sequence))
@@ -123,12 +120,12 @@ fn hand_up(
 }
 
 // A packet that the board refused is unread.
-fn count_reading(link: Link, reading: board::Answer) -> Link
+fn count_reading(link: Link, reading: Result<board::Done, Refusal>) -> Link
     ensures { result ≡ count_reading link reading }
 {
     match reading {
-        board::Answer::Refused(_) => count_unread(link),
-        board::Answer::EndMark { .. } | board::Answer::Updated { .. } => link,
+        Err(_) => count_unread(link),
+        Ok(_) => link,
     }
 }
 

@@ -5,11 +5,12 @@ use mathlib.Core.Bool.{Bool, true, false, cond}
 use mathlib.Core.List.{List, [], ◌∷◌}
 use mathlib.Core.Option.{Option, some, none}
 use Prim.Native.Nat.{ℕ, ◌≤◌}
-use native.Mathlib.Omega.{arith}
 use lib.Dec.{eqb}
 use lib.ListN.{length}
 use Rattle.slices.proofs.Impossible.{impossible}
 use Rattle.refusals.specs.Numbers.{bad_framing, long_content, bad_check, unknown_type, loaded_acknowledgement}
+use Rattle.refusals.specs.declared.Refusal.{Refusal}
+use Rattle.frame.specs.Answers.{fault_at}
 use Rattle.frame.specs.Content as content
 use Rattle.frame.specs.Content.{no_place}
 use Rattle.frame.specs.Places.{BadEscape, PassesLimit, FailsCheck, Places}
@@ -30,7 +31,7 @@ use Rattle.ledger.proofs.RefusedFrames.{frame_refused}
 use Rattle.ledger.proofs.ClosedCalls.{next_gives}
 
 -- refusals 5 and 6 have place 0
-no_place_law : (run : List ℕ) (number n place : ℕ) → (number ≡ bad_framing → ⊥) → (number ≡ long_content → ⊥) → (number ≡ bad_check → ⊥)
+no_place_law : (run : List ℕ) (number n : Refusal) (place : ℕ) → (number ≡ bad_framing → ⊥) → (number ≡ long_content → ⊥) → (number ≡ bad_check → ⊥)
     → frames.refused number no_place ≡ frames.refused n place → Places run n place
 no_place_law run number n place one two four e =
     let same : number ≡ n = cc in
@@ -42,7 +43,7 @@ no_place_law run number n place one two four e =
       of_others = λ f g h. none;
     }
 
-frame_places : (run : List ℕ) (n place : ℕ) → frame_of run ≡ frames.refused n place → Places run n place
+frame_places : (run : List ℕ) (n : Refusal) (place : ℕ) → frame_of run ≡ frames.refused n place → Places run n place
 unfolding frame_of
 frame_places run n place e = by_read (read_run run) refl e
   where
@@ -53,8 +54,8 @@ frame_places run n place e = by_read (read_run run) refl e
         → Places run n place
     by_type_law sequence payload true u v e = impossible cc
     by_type_law sequence payload false true true e = impossible cc
-    by_type_law sequence payload false true false e = no_place_law run loaded_acknowledgement n place (λ f. omega arith) (λ f. omega arith) (λ f. omega arith) e
-    by_type_law sequence payload false false v e = no_place_law run unknown_type n place (λ f. omega arith) (λ f. omega arith) (λ f. omega arith) e
+    by_type_law sequence payload false true false e = no_place_law run loaded_acknowledgement n place (λ f. impossible cc) (λ f. impossible cc) (λ f. impossible cc) e
+    by_type_law sequence payload false false v e = no_place_law run unknown_type n place (λ f. impossible cc) (λ f. impossible cc) (λ f. impossible cc) e
 
     by_read : (found : content.Read) → read_run run ≡ found → by_type found ≡ frames.refused n place → Places run n place
     by_read (content.refused m at) f e =
@@ -65,16 +66,16 @@ frame_places run n place e = by_read (read_run run) refl e
         by_type_law sequence payload (eqb kind data_type) (eqb kind acknowledgement_type) (eqb (length payload) 0) e
 
 -- the run that was closed, and where it broke
-pub record BrokenFrame (before : Option (List ℕ)) (bytes : List ℕ) (n place : ℕ) : Type 0 where
+pub record BrokenFrame (before : Option (List ℕ)) (bytes : List ℕ) (n : Refusal) (place : ℕ) : Type 0 where
   pub run : List ℕ
   pub closed : (taken before bytes 0).frame ≡ some run
   pub places : Places run n place
 
-effect_broken : (names : List (List ℕ)) (l : Ledger) (before : Option (List ℕ)) (bytes : List ℕ) (n place : ℕ)
-    → as_answer names (effect_of l (taken before bytes 0).frame).answer ≡ Refused n place → BrokenFrame before bytes n place
+effect_broken : (names : List (List ℕ)) (l : Ledger) (before : Option (List ℕ)) (bytes : List ℕ) (n : Refusal) (place : ℕ)
+    → as_answer names (effect_of l (taken before bytes 0).frame).answer ≡ Refused (fault_at n place) → BrokenFrame before bytes n place
 effect_broken names l before bytes n place e = cases (taken before bytes 0).frame refl e
   where
-    cases : (frame : Option (List ℕ)) → (taken before bytes 0).frame ≡ frame → as_answer names (effect_of l frame).answer ≡ Refused n place → BrokenFrame before bytes n place
+    cases : (frame : Option (List ℕ)) → (taken before bytes 0).frame ≡ frame → as_answer names (effect_of l frame).answer ≡ Refused (fault_at n place) → BrokenFrame before bytes n place
     cases none f e = impossible cc
     cases (some run) f e = record { run = run; closed = f; places = frame_places run n place (frame_refused names n place l (frame_of run) e) }
 
@@ -82,15 +83,15 @@ effect_broken names l before bytes n place e = cases (taken before bytes 0).fram
 -- it closed, which began at the last flag, in whichever piece that was.
 pub broken_frame : (names : List (List ℕ)) (w : WatchList) → names_in w ≡ some names → (d : Display) → Begins w d
     → (cs : List Call) (left : List Left) (end : Display) → Chain d cs left end
-    → (bytes reply packet : List ℕ) → reply_room ≤ length reply → packet_room ≤ length packet → (n place count : ℕ) (reply₁ packet₁ : List ℕ) (end₁ : Display)
-    → Chain end (piece bytes reply packet ∷ []) (took count (Refused n place) reply₁ packet₁ ∷ []) end₁
+    → (bytes reply packet : List ℕ) → reply_room ≤ length reply → packet_room ≤ length packet → (n : Refusal) (place count : ℕ) (reply₁ packet₁ : List ℕ) (end₁ : Display)
+    → Chain end (piece bytes reply packet ∷ []) (took count (Refused (fault_at n place)) reply₁ packet₁ ∷ []) end₁
     → BrokenFrame (after (start names) cs).line.run bytes n place
 broken_frame names w listed d begins cs left end chain bytes reply packet r p n place count reply₁ packet₁ end₁ next =
     let l = after (start names) cs in
     let t = taken l.line.run bytes 0 in
     let a = agreeing listed begins chain in
     let gave = next_gives a next r p in
-    let said : as_answer names (effect_of (with_run l t.run) t.frame).answer ≡ Refused n place = cc in
+    let said : as_answer names (effect_of (with_run l t.run) t.frame).answer ≡ Refused (fault_at n place) = cc in
     effect_broken names (with_run l t.run) l.line.run bytes n place said
 
 -- the next call with room, after every list of calls, and the run of the frame that it closes
@@ -100,7 +101,7 @@ module _ (names : List (List ℕ)) (w : WatchList) (listed : names_in w ≡ some
     (run : List ℕ) (closed : (taken (after (start names) cs).line.run bytes 0).frame ≡ some run)
     (count : ℕ) (answer : Answer) (reply₁ packet₁ : List ℕ) (end₁ : Display)
     (next : Chain end (piece bytes reply packet ∷ []) (took count answer reply₁ packet₁ ∷ []) end₁) where
-  answered : (n place : ℕ) → read_run run ≡ content.refused n place → answer ≡ Refused n place
+  answered : (n : Refusal) (place : ℕ) → read_run run ≡ content.refused n place → answer ≡ Refused (fault_at n place)
   unfolding frame_of
   answered n place broke =
       let l = after (start names) cs in
@@ -111,11 +112,11 @@ module _ (names : List (List ℕ)) (w : WatchList) (listed : names_in w ≡ some
       said ∙ ap (λ (frame : Option (List ℕ)). as_answer names (effect_of (with_run l t.run) frame).answer) closed ∙ rw broke
 
   -- THEOREM (02, C-16). A frame that broke at a place is answered with that place.
-  pub escape_answered : (place : ℕ) → BadEscape run place → answer ≡ Refused bad_framing place
+  pub escape_answered : (place : ℕ) → BadEscape run place → answer ≡ Refused (fault_at bad_framing place)
   escape_answered place b = answered bad_framing place (escape_read run place b)
 
-  pub limit_answered : (place : ℕ) → PassesLimit run place → answer ≡ Refused long_content place
+  pub limit_answered : (place : ℕ) → PassesLimit run place → answer ≡ Refused (fault_at long_content place)
   limit_answered place b = answered long_content place (limit_read run place b)
 
-  pub check_answered : (place : ℕ) → FailsCheck run place → answer ≡ Refused bad_check place
+  pub check_answered : (place : ℕ) → FailsCheck run place → answer ≡ Refused (fault_at bad_check place)
   check_answered place b = answered bad_check place (check_read run place b)

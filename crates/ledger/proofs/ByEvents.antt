@@ -6,7 +6,7 @@ use mathlib.Core.List.{List, [], ◌∷◌, ◌++◌, append_assoc}
 use mathlib.Core.Option.{Option, some}
 use Prim.Native.Nat.{ℕ}
 use lib.Dec.{eqb}
-use Rattle.refusals.specs.Numbers.{short_output}
+use Rattle.refusals.specs.Numbers.{short_output, number_of}
 use Rattle.ledger.specs.Ledger.{Ledger, with_sender}
 use Rattle.ledger.specs.Frames as frames
 use Rattle.ledger.specs.Frames.{Turn, goes_on, closes, turn, Frame, frame_of}
@@ -27,7 +27,7 @@ pub data Told : Type 0 where
 -- of the ledger's answers those that do not depend on where a piece was cut, as History `answers_as` has it of the software's
 abbrev pub told_by : Answer → List Told
 told_by nothing = []
-told_by (refused n place) = cond (eqb n short_output) [] (by_piece (refused n place) ∷ [])
+told_by (refused n place) = cond (eqb (number_of n) (number_of short_output)) [] (by_piece (refused n place) ∷ [])
 told_by (heard sequence) = by_piece (heard sequence) ∷ []
 told_by (again sequence) = by_piece (again sequence) ∷ []
 told_by (new sequence payload verdict) = by_piece (new sequence payload verdict) ∷ []

@@ -1,5 +1,6 @@
 -- A chain of calls: each is given what the last one left, and meets the contract of the function that runs. The contracts are those
 -- that the toolchain reads off the source (`Learnt`, `Asked`), so a contract that says less breaks what is built on this.
+use Rattle.std.specs.Prelude.{Ok}
 use mathlib.Core.Path.{◌≡◌}
 use mathlib.Core.List.{List, [], ◌∷◌, ◌++◌}
 use Prim.Native.Nat.{ℕ}
@@ -8,7 +9,6 @@ use contract.Lifetimes.{Lfts}
 use Rattle.slices.proofs.Lent.{Lent, LentOut, InCall}
 use Rattle.rows.specs.declared.Board.{Board}
 use Rattle.rows.proofs.fresh.Reads as fresh
-use Rattle.board.specs.declared.list.Listed.TheVariants.{Accepted}
 use Rattle.board.specs.declared.list.Watched.{Watched}
 use Rattle.board.proofs.watch.Reads as watch
 use Rattle.board.proofs.watch_list.Reads as watch_list
@@ -78,11 +78,11 @@ Lists = InCall watch_list.Asked watch_list.Learnt (λ fields. (fields, tt))
 -- `replay` takes them: `rows::fresh`, then `board::watch` accepted each name on the board of those before it, and `display::start` was
 -- given the board each time.
 pub data Begins : WatchList → Display → Type 0 where
-  from_bytes : {fields : List ℕ} {watched : Watched} {d : Display} → Lists fields watched → watched.answer ≡ Accepted → Starts watched.board d
+  from_bytes : {fields : List ℕ} {watched : Watched} {d : Display} → Lists fields watched → watched.answer ≡ Ok tt → Starts watched.board d
       → Begins (as_bytes fields) d
   no_names : {board : Board} {d : Display} → fresh.Learnt tt tt board tt → Starts board d → Begins (one_by_one []) d
   one_more : {names : List (List ℕ)} {name : List ℕ} {watched : Watched} {d d₁ : Display} → Begins (one_by_one names) d → Watches d.board name watched
-      → watched.answer ≡ Accepted → Starts watched.board d₁ → Begins (one_by_one (names ++ (name ∷ []))) d₁
+      → watched.answer ≡ Ok tt → Starts watched.board d₁ → Begins (one_by_one (names ++ (name ∷ []))) d₁
 
 pub data Chain : Display → List Call → List Left → Display → Type 0 where
   done : {d : Display} → Chain d [] [] d

@@ -8,6 +8,8 @@ use Prim.Native.Nat.{ℕ, suc, ◌≤◌, ◌<◌}
 use native.Mathlib.Omega.{arith}
 use lib.Dec.{eqb}
 use lib.ListN.{length}
+use Rattle.refusals.specs.declared.Refusal.{Refusal}
+use Rattle.frame.specs.Answers.{fault_at}
 use Rattle.frame.specs.Content as frame
 use Rattle.frame.specs.Damage.{Damaged, IsTaken}
 use Rattle.frame.specs.Reading.{first_flag, read_run}
@@ -47,7 +49,7 @@ flag_closes held (b ∷ bs) n e h = by_byte (eqb b flag_byte) e (flag_closes (he
 
 -- a run that is not taken is a refused frame
 record IsRefused (run : List ℕ) : Type 0 where
-  number : ℕ
+  number : Refusal
   place : ℕ
   is : frame_of run ≡ frames.refused number place
 
@@ -61,9 +63,9 @@ not_taken run wrong = cases (read_run run) refl wrong
 
 -- the answer is a refusal
 pub record RefusedAs (answer : Answer) : Type 0 where
-  pub number : ℕ
+  pub number : Refusal
   pub place : ℕ
-  pub is : answer ≡ Refused number place
+  pub is : answer ≡ Refused (fault_at number place)
 
 module _ (names : List (List ℕ)) (cs : List Call) (left : List Left) (end : Display) (a : Agreeing names cs left end)
     (behind_a_flag : (after (start names) cs).line.run ≡ some []) (sent arrived : List ℕ) (damage : Damaged sent arrived)

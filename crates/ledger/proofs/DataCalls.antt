@@ -1,5 +1,6 @@
 -- A call that closes a good data frame, by the ledger's last sequence: a frame with it, not 0, is answered and dropped, and every other one
 -- is new and read by the board.
+use Rattle.std.specs.Prelude.{Result, Ok, Err}
 use mathlib.Core.Path.{◌≡◌, sym, ap, ◌∙◌}
 use mathlib.Core.Bool.{true, false}
 use mathlib.Core.List.{List, [], ◌∷◌, map, append_cancel_left}
@@ -12,7 +13,8 @@ use Rattle.rows.specs.Names.{place_of}
 use Rattle.rows.specs.Rows.{row_count}
 use Rattle.board.specs.Reading as reading
 use Rattle.board.specs.Reading.{Verdict, read_board}
-use Rattle.board.specs.declared.reading.Answer as board_answer
+use Rattle.board.specs.declared.reading.Done.{Done}
+use Rattle.refusals.specs.declared.Refusal.{Refusal}
 use Rattle.link.specs.Counts.{count_of}
 use Rattle.link.specs.declared.counts.Counts.{Counts}
 use Rattle.link.specs.declared.counts.Event.TheVariants as event
@@ -45,10 +47,9 @@ pub record Dropped (sequence : ℕ) (reply packet : List ℕ) (before : Display)
   pub board : behind.board ≡ before.board
 
 -- new plus 1, and for a packet that the board refused unread plus 1
-abbrev pub count_read : board_answer.Answer → Counts → Counts
-count_read (board_answer.TheVariants.Refused n) counts = count_of event.Unread (count_of event.New counts)
-count_read (board_answer.TheVariants.EndMark id) counts = count_of event.New counts
-count_read (board_answer.TheVariants.Updated row id) counts = count_of event.New counts
+abbrev pub count_read : Result Done Refusal → Counts → Counts
+count_read (Err n) counts = count_of event.Unread (count_of event.New counts)
+count_read (Ok done) counts = count_of event.New counts
 
 -- a call that answered it as new: its payload is handed up, and the board has read it
 pub record ReadAsNew (sequence : ℕ) (payload reply packet : List ℕ) (before : Display) (more : Left) (behind : Display) : Type 0 where
@@ -67,7 +68,7 @@ read_counts names l sequence (reading.refused n) = ap (count_of event.Unread) (c
 read_counts names l sequence (reading.end_mark id) = count_new l.line.counts
 read_counts names l sequence (reading.update id name value) = by_place (place_of name names)
   where
-    by_place : (o : Option ℕ) → count_read (as_updated id o) (as_counts l.line.counts) ≡ as_counts (calls.after_new l sequence).line.counts
+    by_place : (o : Option ℕ) → count_read (Ok (as_updated id o)) (as_counts l.line.counts) ≡ as_counts (calls.after_new l sequence).line.counts
     by_place (some place) = count_new l.line.counts
     by_place none = count_new l.line.counts
 

@@ -6,6 +6,9 @@ use mathlib.Core.List.{List, []}
 use mathlib.Core.Option.{Option, some, none}
 use Prim.Native.Nat.{ℕ}
 use lib.ListN.{length}
+use Rattle.refusals.specs.Numbers.{number_of}
+use Rattle.refusals.specs.declared.Refusal.{Refusal}
+use Rattle.frame.specs.Answers.{fault_at}
 use Rattle.rows.specs.declared.Board.{Board}
 use Rattle.board.proofs.NameLaws.{Fits}
 use Rattle.link.specs.Closing.{Outcome, acknowledgement, repeats, again_frame, new_frame, data_frame}
@@ -53,8 +56,8 @@ module _ {count : ℕ} (names : List (List ℕ)) (fit : Fits names) (w : Walk) (
         shows = rw same shows₀;
       })
 
-  refused_agrees : (n place : ℕ) → EffectsOf count names (as_sender l.sender) board w (outcome (frames.refused n place)) (closed l (frames.refused n place))
-  refused_agrees n place = kept_agrees (outcome (frames.refused n place)) _ (as_sender l.sender) (says.Refused n place) refl refl refl refl refl refl (count_refused l.line.counts n) refl
+  refused_agrees : (n : Refusal) (place : ℕ) → EffectsOf count names (as_sender l.sender) board w (outcome (frames.refused n place)) (closed l (frames.refused n place))
+  refused_agrees n place = kept_agrees (outcome (frames.refused n place)) _ (as_sender l.sender) (says.Refused (fault_at n place)) refl refl refl refl refl refl (count_refused l.line.counts (number_of n)) refl
 
   heard_agrees : (sequence : ℕ) → EffectsOf count names (as_sender l.sender) board w (outcome (frames.acknowledgement sequence)) (closed l (frames.acknowledgement sequence))
   heard_agrees sequence =

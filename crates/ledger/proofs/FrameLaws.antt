@@ -6,7 +6,8 @@ use Prim.Native.Nat.{ℕ, ◌≤◌}
 use native.Mathlib.Omega.{arith}
 use lib.Dec.{eqb}
 use lib.ListN.{length}
-use Rattle.refusals.specs.Numbers.{unknown_type, loaded_acknowledgement}
+use Rattle.refusals.specs.Numbers.{unknown_type, loaded_acknowledgement, number_of}
+use Rattle.refusals.specs.declared.Refusal.{Refusal}
 use Rattle.frame.specs.Content as content
 use Rattle.frame.specs.Content.{no_place}
 use Rattle.frame.specs.Reading.{read_run}
@@ -18,7 +19,7 @@ use Rattle.ledger.specs.Calls.{packet_room}
 
 -- a refusal has a number from 1 to 6, and a good data frame at most 383 bytes of payload
 abbrev Bounded : Frame → Type 0
-Bounded (frames.refused n place) = (1 ≤ n) × (n ≤ 6)
+Bounded (frames.refused n place) = (1 ≤ number_of n) × (number_of n ≤ 6)
 Bounded (frames.acknowledgement sequence) = Unit {0}
 Bounded (frames.good sequence payload) = length payload ≤ packet_room
 
@@ -37,7 +38,7 @@ frame_bounded run = by_read (read_run run) refl
         by_type_law false true false = (omega arith, omega arith)
         by_type_law false false v = (omega arith, omega arith)
 
-pub frame_number : (run : List ℕ) (n place : ℕ) → frame_of run ≡ frames.refused n place → (1 ≤ n) × (n ≤ 6)
+pub frame_number : (run : List ℕ) (n : Refusal) (place : ℕ) → frame_of run ≡ frames.refused n place → (1 ≤ number_of n) × (number_of n ≤ 6)
 frame_number run n place e = rw e at (frame_bounded run)
 
 pub payload_bounded : (run : List ℕ) (sequence : ℕ) (payload : List ℕ) → frame_of run ≡ frames.good sequence payload → length payload ≤ packet_room

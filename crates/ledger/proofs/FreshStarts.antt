@@ -1,5 +1,6 @@
 -- A fresh start is the display of the board of good names, and there is one for every good list of names, since each name may join those
 -- before it.
+use Rattle.std.specs.Prelude.{Ok}
 use mathlib.Core.Path.{◌≡◌, refl, sym, ap, ◌∙◌}
 use mathlib.Core.List.{List, [], ◌∷◌, ◌++◌, append_assoc, append-nil}
 use mathlib.Core.Option.{Option, some, none}
@@ -10,7 +11,6 @@ use Rattle.slices.proofs.Lent.{in_call}
 use Rattle.rows.specs.Rows.{row_count, board_of}
 use Rattle.rows.specs.declared.Board.{Board}
 use Rattle.board.specs.WatchList.{Good, watch_names, fields_of, watch_board, as_watched, accepted_with, refused_with}
-use Rattle.board.specs.declared.list.Listed.TheVariants.{Accepted}
 use Rattle.board.specs.declared.list.Watched.{Watched}
 use Rattle.board.proofs.EntryLaws.{list_good}
 use Rattle.board.proofs.GoodLists.{may_join_law, good_listed, too_many_refused}
@@ -32,7 +32,7 @@ pub record Began (w : WatchList) (d : Display) : Type 0 where
 pub list_told : (fields : List ℕ) (watched : Watched) → Lists fields watched → watched ≡ as_watched row_count (watch_names row_count fields)
 list_told fields watched lists = rw lists.input_lent.holds at lists.learnt
 
-from_list : (fields : List ℕ) (watched : Watched) (d : Display) → watched ≡ as_watched row_count (watch_names row_count fields) → watched.answer ≡ Accepted
+from_list : (fields : List ℕ) (watched : Watched) (d : Display) → watched ≡ as_watched row_count (watch_names row_count fields) → watched.answer ≡ Ok tt
     → d ≡ display.fresh watched.board → Began (as_bytes fields) d
 from_list fields watched d told accepted started = cases (watch_names row_count fields) refl
   where
@@ -64,7 +64,7 @@ record Joined (names : List (List ℕ)) (name : List ℕ) (board : Board) : Type
   good : Good row_count (names ++ (name ∷ []))
   is : board ≡ board_of row_count (names ++ (name ∷ []))
 
-joined : (names : List (List ℕ)) (name : List ℕ) (watched : Watched) → Told names name watched → watched.answer ≡ Accepted → Joined names name watched.board
+joined : (names : List (List ℕ)) (name : List ℕ) (watched : Watched) → Told names name watched → watched.answer ≡ Ok tt → Joined names name watched.board
 joined names name watched told accepted =
     let joins = accepted_joins names name told.good (ap (λ (w : Watched). w.answer) (sym told.is) ∙ accepted) in
     record {

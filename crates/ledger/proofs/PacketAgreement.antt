@@ -1,8 +1,9 @@
 -- A new packet does to link and board what it does to the ledger: the board watches the ledger's names, so it reads the same in it, and the
 -- row of an update is its name's place among them.
+use Rattle.std.specs.Prelude.{Ok, Err}
 use mathlib.Core.Path.{◌≡◌, refl, sym, ap, ◌∙◌}
 use mathlib.Core.List.{List, [], ◌++◌, map}
-use mathlib.Core.Option.{some}
+use mathlib.Core.Option.{Option, some}
 use Prim.Native.Nat.{ℕ, ◌-◌}
 use lib.IntN.{ℤ}
 use lib.ListN.{length, replicate}
@@ -14,7 +15,8 @@ use Rattle.rows.proofs.EntryLaws.{Named, showing_names, update_showing}
 use Rattle.board.specs.Reading as reading
 use Rattle.board.specs.Reading.{Verdict, reading_of, read_board}
 use Rattle.board.specs.declared.reading.Reading as declared_reading
-use Rattle.board.specs.declared.reading.Answer.TheVariants as board_says
+use Rattle.board.specs.declared.reading.Done.TheVariants as board_says
+use Rattle.refusals.specs.declared.Refusal.{Refusal}
 use Rattle.board.proofs.NameLaws.{Fits}
 use Rattle.board.proofs.EntryLaws.{There, rows_named, showing_watched, read_refused, read_end, read_update_law, update_there}
 use Rattle.link.specs.Closing.{Outcome, acknowledgement, new_frame}
@@ -82,12 +84,12 @@ module _ {count : ℕ} (names : List (List ℕ)) (fit : Fits names) (w : Walk) (
           shows = shows₁;
         })
 
-    unread_agrees : (n : ℕ) → AgreedBy (record { board = board; answer = board_says.Refused n }) (reading.refused n)
+    unread_agrees : (n : Refusal) → AgreedBy (record { board = board; answer = Err n }) (reading.refused n)
     unread_agrees n =
         read_agrees _ (reading.refused n) (with_unread_packet (call_of w fresh).link) refl refl refl refl refl
         (ap (count_of event.Unread) (count_new l.line.counts) ∙ count_unread (after_new l sequence).line.counts) refl shows₀
 
-    end_agrees : (id : ℕ) → AgreedBy (record { board = board; answer = board_says.EndMark id }) (reading.end_mark id)
+    end_agrees : (id : ℕ) → AgreedBy (record { board = board; answer = Ok (board_says.EndMark id) }) (reading.end_mark id)
     end_agrees id = read_agrees _ (reading.end_mark id) (call_of w fresh).link refl refl refl refl refl (count_new l.line.counts) refl shows₀
 
     -- the row of an update is its name's place in the watch list
@@ -99,9 +101,9 @@ module _ {count : ℕ} (names : List (List ℕ)) (fit : Fits names) (w : Walk) (
         sym (place_listed name names (count - length es) 0 t.named) ∙ ap (place_of name) (sym in_rows) ∙ t.stands
 
     update_agrees : (id : ℕ) (name : List ℕ) (value : ℤ) (t : There board name)
-        → AgreedBy (record { board = update_board t.place value board; answer = board_says.Updated t.place id }) (reading.update id name value)
+        → AgreedBy (record { board = update_board t.place value board; answer = Ok (board_says.Updated t.place id) }) (reading.update id name value)
     update_agrees id name value t =
-        let here = ap (as_updated id) (place_is name t) in
+        let here = ap (λ (o : Option ℕ). Ok (as_updated id o)) (place_is name t) in
         let stands = ap (λ (b : Board). place_of name (row_names b)) (sym shows₀.showing) ∙ t.stands in
         read_agrees _ (reading.update id name value) (call_of w fresh).link refl (sym here) refl refl refl (count_new l.line.counts) refl
         (record {

@@ -15,7 +15,7 @@ use Rattle.link.specs.Closing.{Outcome, close_of}
 use Rattle.link.specs.Receiving.{short_call, walk_call}
 use Rattle.link.specs.Walk.{Walk, walk_of}
 use Rattle.link.specs.declared.counts.Counts as link_counts
-use Rattle.link.specs.declared.reader.Ended.{Ended}
+use Rattle.link.specs.Reader.{Ended}
 use Rattle.link.proofs.OursLaws.{walk_within}
 use Rattle.link.proofs.ReceivingLaws.{room_for_both}
 use Rattle.link.proofs.WalkLaws.{walk_length}

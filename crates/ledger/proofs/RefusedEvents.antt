@@ -12,7 +12,8 @@ use lib.ListN.{length}
 use borrow.Author.Tests.{eqb-true, ltb-true, ltb-false}
 use Rattle.slices.proofs.Impossible.{impossible}
 use Rattle.slices.specs.Put.{put_at}
-use Rattle.refusals.specs.Numbers.{short_output}
+use Rattle.refusals.specs.Numbers.{short_output, number_of}
+use Rattle.refusals.specs.declared.Refusal as refusals
 use Rattle.sender.specs.Events.{Given}
 use Rattle.sender.specs.declared.state.Answer as sender_answer
 use Rattle.sender.specs.declared.state.Answer.TheVariants as sender_says
@@ -50,7 +51,7 @@ pub record ChangesNothing (c : Call) (left : Left) (before behind : Display) : T
 
 -- the number of a refused send or timeout
 record Refusal (answer : sender_answer.Answer) : Type 0 where
-  number : ℕ
+  number : refusals.Refusal
   is : answer ≡ sender_says.Refused number
 
 refusal_of : (answer : sender_answer.Answer) → refused_sending answer ≡ true → Refusal answer
@@ -62,7 +63,7 @@ refusal_of (sender_says.Dropped sequence) e = impossible cc
 
 -- what the sender refuses leaves the display and the output as they were
 kept_by : (d : Display) (given : Given) (output : List ℕ) (result : Outgoing) (output₁ : List ℕ) → SendsAs d given output result output₁
-    → ((n : ℕ) → given.outcome.answer ≡ sender_says.Refused n → Keeps d.sender given) → refused_sending result.answer ≡ true
+    → ((n : refusals.Refusal) → given.outcome.answer ≡ sender_says.Refused n → Keeps d.sender given) → refused_sending result.answer ≡ true
     → (result.display ≡ d) × (output₁ ≡ output)
 kept_by d given output result output₁ does keeps e =
     let refusal = refusal_of result.answer e in
@@ -97,9 +98,9 @@ module _ (names : List (List ℕ)) (w : WatchList) (listed : names_in w ≡ some
       → Chain end (answers.piece bytes reply packet ∷ []) (took count answer reply₁ packet₁ ∷ []) end₁ → reply_room ≤ length reply → packet_room ≤ length packet
       → refused_piece answer ≡ true → ⊥
   long_piece bytes reply packet count Nothing reply₁ packet₁ end₁ next r p e = impossible cc
-  long_piece bytes reply packet count (Refused n place) reply₁ packet₁ end₁ next r p e =
-      let seven = eqb-true n short_output e in
-      let off = refused_frame names w listed d begins cs left end chain bytes reply packet r p n place count reply₁ packet₁ end₁ next in
+  long_piece bytes reply packet count (Refused fault) reply₁ packet₁ end₁ next r p e =
+      let seven = eqb-true (number_of fault.refusal) (number_of short_output) e in
+      let off = refused_frame names w listed d begins cs left end chain bytes reply packet r p fault.refusal fault.place count reply₁ packet₁ end₁ next in
       let most = off.number.1 in
       omega (arith, seven, most)
   long_piece bytes reply packet count (Heard sequence) reply₁ packet₁ end₁ next r p e = impossible cc

@@ -9,7 +9,8 @@ use native.Mathlib.Omega.{arith}
 use lib.Dec.{ltb}
 use lib.ListN.{length}
 use borrow.Author.Tests.{ne_eqb}
-use Rattle.refusals.specs.Numbers.{short_output}
+use Rattle.refusals.specs.Numbers.{short_output, number_of}
+use Rattle.refusals.specs.declared.Refusal.{Refusal}
 use Rattle.frame.specs.Content.{payload_max}
 use Rattle.sender.specs.declared.state.Answer as sender_answer
 use Rattle.display.specs.declared.Display.{Display}
@@ -34,10 +35,10 @@ use Rattle.ledger.proofs.SenderByHistory.{ledger_sender}
 
 module _ (names : List (List ℕ)) where
   -- a frame that was closed is no refused event
-  frame_taken : (l : Ledger) (f : Frame) → ((n place : ℕ) → f ≡ frames.refused n place → n ≤ 6) → refused_piece (as_answer names (closed l f).answer) ≡ false
+  frame_taken : (l : Ledger) (f : Frame) → ((n : Refusal) (place : ℕ) → f ≡ frames.refused n place → number_of n ≤ 6) → refused_piece (as_answer names (closed l f).answer) ≡ false
   frame_taken l (frames.refused n place) few =
       let most = few n place refl in
-      ne_eqb n short_output (λ e. omega (arith, most, e))
+      ne_eqb (number_of n) (number_of short_output) (λ e. omega (arith, most, e))
   frame_taken l (frames.acknowledgement sequence) few = refl
   frame_taken l (frames.good sequence payload) few = by_last (repeated l.line.sequence sequence)
     where

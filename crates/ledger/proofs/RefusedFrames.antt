@@ -1,13 +1,17 @@
 -- DEMAND 1 of the display, a bad frame: it is off the line and counted, and buffers, board, last sequence and sender are as they were, since a frame
 -- that is refused hands nothing out.
-use mathlib.Core.Path.{◌≡◌, sym, ap, ap₂, ◌∙◌}
+use mathlib.Core.Path.{◌≡◌, sym, ap, ◌∙◌}
 use mathlib.Core.Bool.{Bool, true, false, cond}
 use mathlib.Core.List.{List, [], ◌∷◌, map}
 use mathlib.Core.Option.{Option, some, none}
 use Prim.Native.Nat.{ℕ, ◌≤◌}
 use lib.ListN.{length, take}
+use Rattle.refusals.specs.Numbers.{number_of}
+use Rattle.refusals.specs.declared.Refusal.{Refusal}
 use Rattle.slices.proofs.Impossible.{impossible}
 use Rattle.slices.specs.Put.{put_at}
+use Rattle.frame.specs.Answers.{fault_at}
+use Rattle.frame.specs.declared.content.Fault.{Fault}
 use Rattle.rows.specs.Entries.{board_showing}
 use Rattle.rows.specs.Rows.{row_count}
 use Rattle.link.specs.Counts.{count_of}
@@ -34,31 +38,30 @@ use Rattle.ledger.proofs.ClosedCalls.{closes_here, next_gives}
 use Rattle.ledger.proofs.RoomLaws.{with_room}
 
 -- an effect that is answered by a refusal
-record Kept (l : Ledger) (n place : ℕ) (frame : Option (List ℕ)) : Type 0 where
-  number : (1 ≤ n) × (n ≤ 6)
+record Kept (l : Ledger) (n : Refusal) (place : ℕ) (frame : Option (List ℕ)) : Type 0 where
+  number : (1 ≤ number_of n) × (number_of n ≤ 6)
   closes : closed_frames frame ≡ frames.refused n place ∷ []
   reply : (effect_of l frame).reply ≡ []
   packet : (effect_of l frame).packet ≡ []
   entries : (effect_of l frame).ledger.hives.entries ≡ l.hives.entries
-  counts : (effect_of l frame).ledger.line.counts ≡ plus_refused n l.line.counts
+  counts : (effect_of l frame).ledger.line.counts ≡ plus_refused (number_of n) l.line.counts
   sequence : (effect_of l frame).ledger.line.sequence ≡ l.line.sequence
   sender : (effect_of l frame).ledger.sender ≡ l.sender
 
-module _ (names : List (List ℕ)) (n place : ℕ) (l : Ledger) where
-  pub frame_refused : (f : Frame) → as_answer names (closed l f).answer ≡ Refused n place → f ≡ frames.refused n place
+module _ (names : List (List ℕ)) (n : Refusal) (place : ℕ) (l : Ledger) where
+  pub frame_refused : (f : Frame) → as_answer names (closed l f).answer ≡ Refused (fault_at n place) → f ≡ frames.refused n place
   frame_refused (frames.refused k at) e =
-      let number : k ≡ n = cc in
-      let there : at ≡ place = cc in
-      ap₂ frames.refused number there
+      let same : fault_at k at ≡ fault_at n place = cc in
+      ap (λ (fault : Fault). frames.refused fault.refusal fault.place) same
   frame_refused (frames.acknowledgement sequence) e = impossible cc
   frame_refused (frames.good sequence payload) e = by_last (repeated l.line.sequence sequence) e
     where
-      by_last : (t : Bool) → as_answer names (cond t (calls.repeated_frame l sequence) (calls.new_frame l sequence payload)).answer ≡ Refused n place
+      by_last : (t : Bool) → as_answer names (cond t (calls.repeated_frame l sequence) (calls.new_frame l sequence payload)).answer ≡ Refused (fault_at n place)
           → frames.good sequence payload ≡ frames.refused n place
       by_last true e = impossible cc
       by_last false e = impossible cc
 
-  effect_kept : (frame : Option (List ℕ)) → as_answer names (effect_of l frame).answer ≡ Refused n place → Kept l n place frame
+  effect_kept : (frame : Option (List ℕ)) → as_answer names (effect_of l frame).answer ≡ Refused (fault_at n place) → Kept l n place frame
   effect_kept none e = impossible cc
   effect_kept (some run) e =
       let is = frame_refused (frame_of run) e in
@@ -66,19 +69,19 @@ module _ (names : List (List ℕ)) (n place : ℕ) (l : Ledger) where
 
 -- a call with room that is answered by a refusal, from 1 to 6: the frame is off the line, one more is counted under its number, and the
 -- buffers, the board, the last sequence and the sender are as they were
-pub record OffTheLine (n place : ℕ) (events further : List Event) (reply packet : List ℕ) (before : Display) (reply₁ packet₁ : List ℕ) (behind : Display) : Type 0 where
-  pub number : (1 ≤ n) × (n ≤ 6)
+pub record OffTheLine (n : Refusal) (place : ℕ) (events further : List Event) (reply packet : List ℕ) (before : Display) (reply₁ packet₁ : List ℕ) (behind : Display) : Type 0 where
+  pub number : (1 ≤ number_of n) × (number_of n ≤ 6)
   pub closes : Closes events further (frames.refused n place)
   pub reply_kept : reply₁ ≡ reply
   pub packet_kept : packet₁ ≡ packet
   pub board_kept : behind.board ≡ before.board
   pub last_kept : behind.link.last ≡ before.link.last
   pub sender_kept : behind.sender ≡ before.sender
-  pub counts : behind.link.counts ≡ count_of (event.Refused n) before.link.counts
+  pub counts : behind.link.counts ≡ count_of (event.Refused (number_of n)) before.link.counts
 
 module _ (names : List (List ℕ)) (cs : List Call) (left : List Left) (end : Display) (a : Agreeing names cs left end)
-    (bytes reply packet : List ℕ) (r : reply_room ≤ length reply) (p : packet_room ≤ length packet) (n place count : ℕ) (reply₁ packet₁ : List ℕ) (end₁ : Display)
-    (next : Chain end (piece bytes reply packet ∷ []) (took count (Refused n place) reply₁ packet₁ ∷ []) end₁) where
+    (bytes reply packet : List ℕ) (r : reply_room ≤ length reply) (p : packet_room ≤ length packet) (n : Refusal) (place count : ℕ) (reply₁ packet₁ : List ℕ) (end₁ : Display)
+    (next : Chain end (piece bytes reply packet ∷ []) (took count (Refused (fault_at n place)) reply₁ packet₁ ∷ []) end₁) where
   abbrev l : Ledger
   l = after (start names) cs
 
@@ -88,17 +91,17 @@ module _ (names : List (List ℕ)) (cs : List Call) (left : List Left) (end : Di
   abbrev effect : Effect
   effect = effect_of (with_run l t.run) t.frame
 
-  one : Gives row_count names (step l (piece bytes reply packet)) (took count (Refused n place) reply₁ packet₁) end₁
+  one : Gives row_count names (step l (piece bytes reply packet)) (took count (Refused (fault_at n place)) reply₁ packet₁) end₁
   one = next_call a next
 
   ledger_is : (step l (piece bytes reply packet)).ledger ≡ effect.ledger
   ledger_is = ap (λ (s : calls.Step). s.ledger) (with_room l bytes reply packet r p)
 
-  gave : took count (Refused n place) reply₁ packet₁ ≡ as_left names (piece_step l t reply packet).given
+  gave : took count (Refused (fault_at n place)) reply₁ packet₁ ≡ as_left names (piece_step l t reply packet).given
   gave = next_gives a next r p
 
   kept : Kept (with_run l t.run) n place t.frame
-  kept = let said = gave in effect_kept names n place (with_run l t.run) t.frame (let same : as_answer names effect.answer ≡ Refused n place = cc in same)
+  kept = let said = gave in effect_kept names n place (with_run l t.run) t.frame (let same : as_answer names effect.answer ≡ Refused (fault_at n place) = cc in same)
 
   closed_here : Closes (history cs left) (map byte (take count bytes)) (frames.refused n place)
   closed_here =
@@ -131,15 +134,15 @@ module _ (names : List (List ℕ)) (cs : List Call) (left : List Left) (end : Di
         counts =
             one.agrees.counts_are
             ∙ ap (λ (m : Ledger). as_counts m.line.counts) ledger_is
-            ∙ rw kept.counts (sym (ap (count_of (event.Refused n)) a.all.agrees.counts_are ∙ count_refused l.line.counts n));
+            ∙ rw kept.counts (sym (ap (count_of (event.Refused (number_of n))) a.all.agrees.counts_are ∙ count_refused l.line.counts (number_of n)));
       }
 
 -- THEOREM. After every list of calls: where the next call has room and is answered by a refusal, it is a frame's, from 1 to 6. The frame is off
 -- the line and counted under that number, and the buffers, the board and the last sequence are as they were.
 pub refused_frame : (names : List (List ℕ)) (w : WatchList) → names_in w ≡ some names → (d : Display) → Begins w d
     → (cs : List Call) (left : List Left) (end : Display) → Chain d cs left end
-    → (bytes reply packet : List ℕ) → reply_room ≤ length reply → packet_room ≤ length packet → (n place count : ℕ) (reply₁ packet₁ : List ℕ) (end₁ : Display)
-    → Chain end (piece bytes reply packet ∷ []) (took count (Refused n place) reply₁ packet₁ ∷ []) end₁
+    → (bytes reply packet : List ℕ) → reply_room ≤ length reply → packet_room ≤ length packet → (n : Refusal) (place count : ℕ) (reply₁ packet₁ : List ℕ) (end₁ : Display)
+    → Chain end (piece bytes reply packet ∷ []) (took count (Refused (fault_at n place)) reply₁ packet₁ ∷ []) end₁
     → OffTheLine n place (history cs left) (map byte (take count bytes)) reply packet end reply₁ packet₁ end₁
 refused_frame names w listed d begins cs left end chain bytes reply packet r p n place count reply₁ packet₁ end₁ next =
     off_the_line names cs left end (agreeing listed begins chain) bytes reply packet r p n place count reply₁ packet₁ end₁ next

@@ -1,5 +1,6 @@
 -- DEMAND 1 of the display, a packet that the board refuses: the board is as it was, since what it reads is refused before a row is changed,
 -- and the packet is counted as new and as unread.
+use Rattle.std.specs.Prelude.{Result, Err}
 use mathlib.Core.Path.{◌≡◌, refl, ap, ◌∙◌}
 use mathlib.Core.Bool.{Bool, true, false}
 use mathlib.Core.List.{List, [], ◌∷◌, map}
@@ -13,8 +14,8 @@ use Rattle.rows.specs.Rows.{row_names, watched}
 use Rattle.rows.specs.declared.Board.{Board}
 use Rattle.board.specs.Reading as reading
 use Rattle.board.specs.Reading.{Verdict, reading_of, updated, applied, read_board}
-use Rattle.board.specs.declared.reading.Answer as board_answer
-use Rattle.board.specs.declared.reading.Answer.TheVariants as board_says
+use Rattle.board.specs.declared.reading.Done.{Done}
+use Rattle.refusals.specs.declared.Refusal.{Refusal}
 use Rattle.link.specs.Counts.{count_of}
 use Rattle.link.specs.declared.counts.Event.TheVariants as event
 use Rattle.display.specs.declared.Answer.TheVariants.{New}
@@ -34,17 +35,17 @@ use Rattle.ledger.proofs.ClosedCalls.{closes_here}
 use Rattle.ledger.proofs.DataCalls.{dropped, read_new}
 use Rattle.ledger.proofs.RoomLaws.{by_room}
 
-refused_stays : (board : Board) (v : Verdict) (k : ℕ) → (applied board v).answer ≡ board_says.Refused k → (applied board v).board ≡ board
+refused_stays : (board : Board) (v : Verdict) (k : Refusal) → (applied board v).answer ≡ Err k → (applied board v).board ≡ board
 unfolding applied updated
 refused_stays board (reading.refused m) k e = refl
 refused_stays board (reading.end_mark id) k e = refl
 refused_stays board (reading.update id name value) k e = by_place (place_of name (row_names board)) e
   where
-    by_place : (o : Option ℕ) → (updated board id value o).answer ≡ board_says.Refused k → (updated board id value o).board ≡ board
+    by_place : (o : Option ℕ) → (updated board id value o).answer ≡ Err k → (updated board id value o).board ≡ board
     by_place (some place) e = impossible cc
     by_place none e = refl
 
-read_unread : (board : Board) (payload : List ℕ) (k : ℕ) → (read_board board payload).answer ≡ board_says.Refused k → (read_board board payload).board ≡ board
+read_unread : (board : Board) (payload : List ℕ) (k : Refusal) → (read_board board payload).answer ≡ Err k → (read_board board payload).board ≡ board
 unfolding read_board
 read_unread board payload k e = refused_stays board (reading_of (watched board) payload) k e
 
@@ -55,7 +56,7 @@ record NewFound (l : Ledger) (bytes : List ℕ) (count : ℕ) : Type 0 where
   counted : count ≡ (taken l.line.run bytes 0).count
   closes : closed_frames (taken l.line.run bytes 0).frame ≡ frames.good sequence payload ∷ []
 
-module _ (names : List (List ℕ)) (l : Ledger) (bytes reply packet : List ℕ) (count m size : ℕ) (answer : board_answer.Answer) (reply₁ packet₁ : List ℕ) where
+module _ (names : List (List ℕ)) (l : Ledger) (bytes reply packet : List ℕ) (count m size : ℕ) (answer : Result Done Refusal) (reply₁ packet₁ : List ℕ) where
   abbrev t : Taken
   t = taken l.line.run bytes 0
 
@@ -94,8 +95,8 @@ pub record Unread (events further : List Event) (reply packet : List ℕ) (befor
 -- THEOREM. After every list of calls: where the next call is answered by a new packet that the board refused, the board is as it was.
 pub refused_packet : (names : List (List ℕ)) (w : WatchList) → names_in w ≡ some names → (d : Display) → Begins w d
     → (cs : List Call) (left : List Left) (end : Display) → Chain d cs left end
-    → (bytes reply packet : List ℕ) (count m size k : ℕ) (reply₁ packet₁ : List ℕ) (end₁ : Display)
-    → Chain end (piece bytes reply packet ∷ []) (took count (New m size (board_says.Refused k)) reply₁ packet₁ ∷ []) end₁
+    → (bytes reply packet : List ℕ) (count m size : ℕ) (k : Refusal) (reply₁ packet₁ : List ℕ) (end₁ : Display)
+    → Chain end (piece bytes reply packet ∷ []) (took count (New m size (Err k)) reply₁ packet₁ ∷ []) end₁
     → Unread (history cs left) (map byte (take count bytes)) reply packet end reply₁ packet₁ end₁
 refused_packet names w listed d begins cs left end chain bytes reply packet count m size k reply₁ packet₁ end₁ next =
     by_last (repeated l.line.sequence found.sequence) refl
@@ -107,11 +108,11 @@ refused_packet names w listed d begins cs left end chain bytes reply packet coun
     a = agreeing listed begins chain
 
     more : Left
-    more = took count (New m size (board_says.Refused k)) reply₁ packet₁
+    more = took count (New m size (Err k)) reply₁ packet₁
 
     found : NewFound l bytes count
     found =
-        new_found names l bytes reply packet count m size (board_says.Refused k) reply₁ packet₁
+        new_found names l bytes reply packet count m size (Err k) reply₁ packet₁
         (next_call a next).gives
 
     closes : Closes (history cs left) (map byte (take count bytes)) (frames.good found.sequence found.payload)
@@ -124,7 +125,7 @@ refused_packet names w listed d begins cs left end chain bytes reply packet coun
     by_last false e =
         let new = read_new names cs left end a bytes reply packet more end₁ next found.sequence found.payload closes e in
         let said = new.answers in
-        let refused : (read_board end.board found.payload).answer ≡ board_says.Refused k = cc in
+        let refused : (read_board end.board found.payload).answer ≡ Err k = cc in
         let replied : reply₁ ≡ put_at reply 0 (answer_to found.sequence) = cc in
         let handed : packet₁ ≡ put_at packet 0 found.payload = cc in
         record {

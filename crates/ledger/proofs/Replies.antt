@@ -1,5 +1,6 @@
 -- The replies that are handed out are the acknowledgements of the data frames that were closed, of new ones and of repeated ones, and the
 -- frames of our own, sent for the first time or again, in order; each is read back as what it was meant to be.
+use Rattle.std.specs.Prelude.{Result, Ok}
 use mathlib.Core.Path.{◌≡◌, refl, sym, ap, ap₂, ◌∙◌}
 use mathlib.Core.Bool.{Bool, true, false, cond}
 use mathlib.Core.List.{List, [], ◌∷◌, ◌++◌}
@@ -9,9 +10,9 @@ use native.Mathlib.Omega.{arith}
 use lib.ListN.{length}
 use Rattle.slices.specs.Put.{put_at}
 use Rattle.frame.specs.Content.{payload_max}
-use Rattle.frame.specs.Answers.{read_answer}
-use Rattle.frame.specs.declared.content.FrameRead.{FrameRead}
-use Rattle.frame.specs.declared.content.FrameRead.TheVariants as read
+use Rattle.frame.specs.Answers.{frame_found, read_answer}
+use Rattle.frame.specs.declared.content.Fault.{Fault}
+use Rattle.frame.specs.declared.content.Frame as read
 use Rattle.frame.proofs.FrameTheorems.{frame_read_back}
 use Rattle.frame.proofs.FrameCalls.{Reads, was_read}
 use Rattle.display.specs.declared.Display.{Display}
@@ -98,16 +99,16 @@ replies_sent names w listed d begins cs left end chain =
 
 -- THEOREM. Such a reply, read by a call of the whole-frame reader with an output of at least 383 bytes, is answered by type 02, its sequence
 -- and no payload.
-pub reply_read_back : (sequence : ℕ) (out : List ℕ) (answer : FrameRead) (out₁ : List ℕ) → Reads (answer_to sequence) out answer out₁ → payload_max ≤ length out
-    → (answer ≡ read.Frame 0x02 sequence 0) × (out₁ ≡ out)
+pub reply_read_back : (sequence : ℕ) (out : List ℕ) (answer : Result read.Frame Fault) (out₁ : List ℕ) → Reads (answer_to sequence) out answer out₁ → payload_max ≤ length out
+    → (answer ≡ Ok (frame_found 0x02 sequence 0)) × (out₁ ≡ out)
 reply_read_back sequence out answer out₁ r asked =
     let is = frame_read_back (length out) 0x02 sequence [] asked (omega arith) in
     let did = was_read r in
     (did.answers ∙ ap read_answer is, did.output ∙ rw is)
 
 -- THEOREM. A frame of our own, with a payload of at most 383 bytes, is read back as type 01, its sequence and its payload.
-pub own_frame_read_back : (sequence : ℕ) (payload out : List ℕ) (answer : FrameRead) (out₁ : List ℕ) → Reads (own_frame sequence payload) out answer out₁
-    → payload_max ≤ length out → length payload ≤ payload_max → (answer ≡ read.Frame 0x01 sequence (length payload)) × (out₁ ≡ put_at out 0 payload)
+pub own_frame_read_back : (sequence : ℕ) (payload out : List ℕ) (answer : Result read.Frame Fault) (out₁ : List ℕ) → Reads (own_frame sequence payload) out answer out₁
+    → payload_max ≤ length out → length payload ≤ payload_max → (answer ≡ Ok (frame_found 0x01 sequence (length payload))) × (out₁ ≡ put_at out 0 payload)
 own_frame_read_back sequence payload out answer out₁ r asked few =
     let is = frame_read_back (length out) 0x01 sequence payload asked few in
     let did = was_read r in

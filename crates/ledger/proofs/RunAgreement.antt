@@ -13,7 +13,6 @@ use Rattle.link.specs.Walk.{Walk}
 use Rattle.link.specs.Closing.{read_outcome, close_of}
 use Rattle.link.specs.Seen.{Seen, seen, reader_of, nothing_seen, seen_after, seen_run, close_seen}
 use Rattle.link.specs.declared.counts.Counts.{Counts}
-use Rattle.link.specs.declared.reader.Ended.TheVariants as ends
 use Rattle.link.specs.declared.reader.Phase.TheVariants.{Before}
 use Rattle.link.specs.declared.reader.Reader.{Reader}
 use Rattle.link.proofs.SeenLaws.{seen_step, seen_ended, seen_close}
@@ -32,7 +31,7 @@ Closes frame w =
     → close_of w.ended w.content previous before ≡ read_outcome (read_run frame) previous before
 
 abbrev pub Reached : Option (List ℕ) → Option (List ℕ) → Walk → Type 0
-Reached run none w = (w.ended ≡ ends.Nothing) × Standing run w.content w.reader
+Reached run none w = (w.ended ≡ code.Ok code.None) × Standing run w.content w.reader
 Reached run (some frame) w = Standing run w.content w.reader × Closes frame w
 
 pub record Agreement (t : Taken) (w : Walk) : Type 0 where
@@ -60,10 +59,10 @@ module _ (array : List ℕ) (reader : Reader) (whole : length array ≡ content_
       ∙ ap (λ (s : Seen). close_seen s previous before) e
       ∙ run_close x xs previous before
 
-  pub nothing_ended : seen array reader ≡ nothing_seen → ended_by reader ≡ ends.Nothing
+  pub nothing_ended : seen array reader ≡ nothing_seen → ended_by reader ≡ code.Ok code.None
   nothing_ended e = seen_ended array reader whole within ∙ ap (λ (s : Seen). ended_by (reader_of s)) e
 
-pub before_ended : (reader : Reader) → reader.phase ≡ Before → ended_by reader ≡ ends.Nothing
+pub before_ended : (reader : Reader) → reader.phase ≡ Before → ended_by reader ≡ code.Ok code.None
 before_ended reader e = rw e
 
 -- right behind a flag nothing is seen

@@ -39,7 +39,7 @@ held_frame sequence repeats = Some (record { sequence = sequence; repeats = repe
 -- the sender behind an answer
 abbrev pub sender_by : display_answer.Answer → Sender → Sender
 sender_by says.Nothing s = s
-sender_by (says.Refused n place) s = s
+sender_by (says.Refused fault) s = s
 sender_by (says.Heard sequence) s = acknowledged s sequence
 sender_by (says.Again replied) s = s
 sender_by (says.New replied size verdict) s = s
@@ -47,7 +47,7 @@ sender_by (says.New replied size verdict) s = s
 sender_answered : (answer : link_answer.Answer) (s : Sender) (board : Board) (call : link.Call)
     → (result_of answer s board call).display.sender ≡ sender_by (result_of answer s board call).answer s
 sender_answered link_answer.TheVariants.Nothing s board call = refl
-sender_answered (link_answer.TheVariants.Refused n place) s board call = refl
+sender_answered (link_answer.TheVariants.Refused fault) s board call = refl
 sender_answered (link_answer.TheVariants.Heard sequence) s board call = refl
 sender_answered (link_answer.TheVariants.Again replied) s board call = refl
 sender_answered (link_answer.TheVariants.New replied size) s board call = refl

@@ -9,6 +9,7 @@ use lib.ListN.{length}
 use borrow.Author.Tests.{ltb-true, ltb-false}
 use Rattle.slices.proofs.Impossible.{impossible}
 use Rattle.refusals.specs.Numbers.{short_output}
+use Rattle.refusals.specs.declared.Refusal.{Refusal}
 use Rattle.frame.specs.Content.{payload_max}
 use Rattle.ledger.specs.Ledger.{Held, Sender}
 use Rattle.ledger.specs.Answers.{idle}
@@ -27,7 +28,7 @@ module _ (P : SenderStep → Type 0) (s : Sender) where
       by_test false e = fits (ltb-false room (length step.output) e)
 
   -- a send: refused, or the frame goes out, since none waits, the payload is within the limit and there is room
-  pub by_send : (payload : List ℕ) (room : ℕ) → ((n : ℕ) → P (refusing s n))
+  pub by_send : (payload : List ℕ) (room : ℕ) → ((n : Refusal) → P (refusing s n))
       → (s.held ≡ none → length payload ≤ payload_max → length (own_frame s.next payload) ≤ room → P (sends s payload)) → P (send_step s payload room)
   unfolding send_step
   by_send payload room refused goes =

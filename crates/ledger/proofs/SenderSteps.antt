@@ -7,6 +7,7 @@ use mathlib.Core.Option.{Option, some, none}
 use Prim.Native.Nat.{ℕ, ◌≤◌, ◌<◌}
 use lib.ListN.{length}
 use Rattle.refusals.specs.Numbers.{short_output}
+use Rattle.refusals.specs.declared.Refusal.{Refusal}
 use Rattle.slices.specs.Put.{put_at}
 use Rattle.frame.specs.Content.{no_place}
 use Rattle.sender.specs.declared.state.Answer.TheVariants as sender_says
@@ -51,7 +52,7 @@ tick_quiet : Quiet ticked
 unfolding repeats_sent drops_reported sequences_sent
 tick_quiet = record { no_notice = λ sequence. refl; not_again = λ more. refl; not_reported = λ more. refl; not_sent = λ more. refl }
 
-refused_quiet : (n : ℕ) (output : List ℕ) → Quiet (outgoing (sender_says.Refused n) output)
+refused_quiet : (n : Refusal) (output : List ℕ) → Quiet (outgoing (sender_says.Refused n) output)
 unfolding repeats_sent drops_reported sequences_sent
 refused_quiet n output = record { no_notice = λ sequence. refl; not_again = λ more. refl; not_reported = λ more. refl; not_sent = λ more. refl }
 

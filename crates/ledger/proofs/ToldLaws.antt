@@ -4,7 +4,8 @@ use mathlib.Core.Bool.{Bool, true, false, cond}
 use mathlib.Core.List.{List, [], ◌∷◌, ◌++◌, map, map-append, append_assoc}
 use Prim.Native.Nat.{ℕ}
 use lib.Dec.{eqb}
-use Rattle.refusals.specs.Numbers.{short_output}
+use Rattle.refusals.specs.Numbers.{short_output, number_of}
+use Rattle.frame.specs.Answers.{fault_at}
 use Rattle.display.specs.declared.Answer.TheVariants.{Refused}
 use Rattle.ledger.specs.Ledger.{Ledger}
 use Rattle.ledger.specs.Answers as answers
@@ -39,7 +40,7 @@ among_append sort (x ∷ xs) ys = ap (λ (r : List (List ℕ)). sort x ++ r) (am
 pub told_handed : (a : Answer) → handed_by a ≡ handed_with (told_by a)
 unfolding handed_with
 told_handed answers.nothing = refl
-told_handed (answers.refused n place) = by_number (eqb n short_output)
+told_handed (answers.refused n place) = by_number (eqb (number_of n) (number_of short_output))
   where
     by_number : (t : Bool) → [] ≡ handed_with (cond t [] (by_piece (answers.refused n place) ∷ []))
     by_number true = refl
@@ -77,9 +78,9 @@ module _ (names : List (List ℕ)) where
 
   answer_told : (a : Answer) → map software.of_piece (answers_as (as_answer names a)) ≡ map as_told (told_by a)
   answer_told answers.nothing = refl
-  answer_told (answers.refused n place) = by_number (eqb n short_output)
+  answer_told (answers.refused n place) = by_number (eqb (number_of n) (number_of short_output))
     where
-      by_number : (t : Bool) → map software.of_piece (cond t [] (Refused n place ∷ [])) ≡ map as_told (cond t [] (by_piece (answers.refused n place) ∷ []))
+      by_number : (t : Bool) → map software.of_piece (cond t [] (Refused (fault_at n place) ∷ [])) ≡ map as_told (cond t [] (by_piece (answers.refused n place) ∷ []))
       by_number true = refl
       by_number false = refl
   answer_told (answers.heard sequence) = refl

@@ -12,14 +12,12 @@ use borrow.Author.Tests.{eqb-true, eqb-false, eq-eqb, ne_eqb}
 use Rattle.slices.proofs.PutLaws.{length_put}
 use Rattle.frame.specs.Stuffing.{flag_byte, content_max}
 use Rattle.frame.specs.Reading.{read_run}
-use Rattle.link.specs.Reader.{behind_flag, ended_by, step_of, content_after}
+use Rattle.link.specs.Reader.{Ended, behind_flag, ended_by, step_of, content_after}
 use Rattle.link.specs.Walk as walk
 use Rattle.link.specs.Walk.{flag_turn, turn_of, go_on, walk_of}
 use Rattle.link.specs.Closing.{Outcome, read_outcome, close_of}
 use Rattle.link.specs.Seen.{seen_run}
 use Rattle.link.specs.declared.counts.Counts.{Counts}
-use Rattle.link.specs.declared.reader.Ended.{Ended}
-use Rattle.link.specs.declared.reader.Ended.TheVariants as ends
 use Rattle.link.specs.declared.reader.Reader.{Reader}
 use Rattle.link.specs.Counts.{no_counts}
 use Rattle.link.proofs.WalkLaws.{turn_flag, turn_byte}
@@ -58,7 +56,7 @@ Rest bs n =
 
 module _ (array : List ℕ) (reader : Reader) (b : ℕ) (bs : List ℕ) (n : ℕ) (whole : length array ≡ content_max) (within : reader.length ≤ content_max)
     (rest : Rest bs (suc n)) where
-  starts_anew : (run : Option (List ℕ)) → b ≡ flag_byte → at_flag run ≡ goes_on (some []) → ended_by reader ≡ ends.Nothing → Turned array reader run b bs n
+  starts_anew : (run : Option (List ℕ)) → b ≡ flag_byte → at_flag run ≡ goes_on (some []) → ended_by reader ≡ code.Ok code.None → Turned array reader run b bs n
   starts_anew run flag e none-ended =
       going_on array reader run b bs n (some []) array behind_flag (turn_at_flag run b flag ∙ e)
       (turn_flag array reader b flag ∙ ap (flag_turn array) none-ended)
@@ -76,12 +74,12 @@ module _ (array : List ℕ) (reader : Reader) (b : ℕ) (bs : List ℕ) (n : ℕ
           ∙ run_closes array reader whole within x xs standing previous before)
 
       by_end : (end : Ended) → ended_by reader ≡ end → Turned array reader (some (x ∷ xs)) b bs n
-      by_end ends.Nothing e =
+      by_end (code.Ok code.None) e =
           let closed = run_closes array reader whole within x xs standing code.None no_counts in
           let same = ap (λ (end₁ : Ended). close_of end₁ array code.None no_counts) (sym e) ∙ closed ∙ read_by_type (read_run (x ∷ xs)) code.None no_counts in
           absurd (frame_answers (by_type (read_run (x ∷ xs))) code.None no_counts (sym (ap (λ (o : Outcome). o.answer) same)))
-      by_end (ends.Content k) e = stops (ends.Content k) e refl
-      by_end (ends.Refused k place) e = stops (ends.Refused k place) e refl
+      by_end (code.Ok (code.Some k)) e = stops (code.Ok (code.Some k)) e refl
+      by_end (code.Err fault) e = stops (code.Err fault) e refl
 
   flag_turn_law : (run : Option (List ℕ)) → b ≡ flag_byte → Standing run array reader → Turned array reader run b bs n
   unfolding seen_run

@@ -1,6 +1,7 @@
 -- 01, The ledger: where a list of calls starts, what a call is, and what it is given.
 use Rattle.std.specs.Prelude.{ℕ, List}
 use Rattle.std.proofs.Math.Option.{Option, some}
+use Rattle.refusals.specs.declared.Refusal.{Refusal}
 use Rattle.rows.specs.Rows.{row_count}
 use Rattle.board.specs.Reading.{Verdict}
 use Rattle.board.specs.WatchList.{watch_names}
@@ -26,7 +27,7 @@ pub data Call : Type 0 where
 -- board reads in its payload
 pub data Answer : Type 0 where
   nothing : Answer
-  refused : ℕ → ℕ → Answer
+  refused : Refusal → ℕ → Answer
   heard : ℕ → Answer
   again : ℕ → Answer
   new : ℕ → List ℕ → Verdict → Answer
@@ -35,7 +36,7 @@ pub data Answer : Type 0 where
 -- payload; or a frame was dropped
 pub data Sending : Type 0 where
   idle : Sending
-  refused : ℕ → Sending
+  refused : Refusal → Sending
   sent : ℕ → List ℕ → Sending
   repeated : ℕ → List ℕ → Sending
   dropped : Held → Sending

@@ -1,7 +1,8 @@
 -- 01, The ledger: what a call does to it, and what it answers.
 use Rattle.std.specs.Prelude.{ℕ, Bool, false, cond, ◌||◌, List, [], ◌∷◌, map, eqb, ltb, length}
 use Rattle.std.proofs.Math.Option.{Option, some, none}
-use Rattle.refusals.specs.Numbers.{short_output}
+use Rattle.refusals.specs.Numbers.{short_output, number_of}
+use Rattle.refusals.specs.declared.Refusal.{Refusal}
 use Rattle.slices.specs.Put.{put_at}
 use Rattle.frame.specs.Content.{no_place}
 use Rattle.frame.specs.Writing as writing
@@ -24,9 +25,9 @@ abbrev pub with_counts : Ledger → Counts → Ledger
 with_counts l counts = with_line l (record { run = l.line.run; sequence = l.line.sequence; counts = counts })
 
 -- refused: its count plus 1. 02, C-16: the answer has the place.
-abbrev pub refused_frame : Ledger → ℕ → ℕ → Effect
+abbrev pub refused_frame : Ledger → Refusal → ℕ → Effect
 refused_frame l n place =
-    record { ledger = with_counts l (plus_refused n l.line.counts); answer = refused n place; reply = []; packet = [] }
+    record { ledger = with_counts l (plus_refused (number_of n) l.line.counts); answer = refused n place; reply = []; packet = [] }
 
 -- type 02: heard plus 1. 02, C-13: one of its sequence frees the frame that our sender holds.
 abbrev pub heard_frame : Ledger → ℕ → Effect

@@ -2,6 +2,7 @@
 use Rattle.std.specs.Prelude.{ℕ, suc, cond, List, [], ◌∷◌, ◌++◌, eqb, length}
 use Rattle.std.proofs.Math.Option.{Option, some, none}
 use Rattle.refusals.specs.Numbers.{unknown_type, loaded_acknowledgement}
+use Rattle.refusals.specs.declared.Refusal.{Refusal}
 use Rattle.frame.specs.Stuffing.{flag_byte}
 use Rattle.frame.specs.Content as content
 use Rattle.frame.specs.Content.{no_place}
@@ -43,7 +44,7 @@ taken run (b ∷ bs) n = after_turn (turn run b) (suc n) (λ run₁ n₁. taken 
 
 -- what a frame is: refused by 1 to 6 with a place, an acknowledgement, or a good data frame
 pub data Frame : Type 0 where
-  refused : ℕ → ℕ → Frame
+  refused : Refusal → ℕ → Frame
   acknowledgement : ℕ → Frame
   good : ℕ → List ℕ → Frame
 

@@ -1,7 +1,7 @@
 -- 01, The ledger: the history is the bytes taken and the ticks, in order, as the calls took them; and what they handed out and answered.
 -- 02, C-13: it gains sends and timeouts. Refused events are no part of it.
 use Rattle.std.specs.Prelude.{ℕ, Bool, true, false, cond, List, [], ◌∷◌, ◌++◌, map, eqb, take}
-use Rattle.refusals.specs.Numbers.{short_output}
+use Rattle.refusals.specs.Numbers.{short_output, number_of}
 use Rattle.display.specs.declared.Answer.{Answer}
 use Rattle.display.specs.declared.Answer.TheVariants.{Nothing, Refused, Heard, Again, New}
 use Rattle.sender.specs.declared.state.Answer as sender_answer
@@ -20,7 +20,7 @@ pub data Event : Type 0 where
 -- the refused events: a piece is one only by 7
 abbrev pub refused_piece : Answer → Bool
 refused_piece Nothing = false
-refused_piece (Refused n place) = eqb n short_output
+refused_piece (Refused fault) = eqb (number_of fault.refusal) (number_of short_output)
 refused_piece (Heard sequence) = false
 refused_piece (Again replied) = false
 refused_piece (New replied size verdict) = false
@@ -68,7 +68,7 @@ pub data Handed : Type 0 where
 -- it stands at the start of the buffers, as long as the answer says
 abbrev pub handed_as : Answer → List ℕ → List ℕ → List Handed
 handed_as Nothing reply packet = []
-handed_as (Refused n place) reply packet = []
+handed_as (Refused fault) reply packet = []
 handed_as (Heard sequence) reply packet = []
 handed_as (Again replied) reply packet = as_reply (take replied reply) ∷ []
 handed_as (New replied size verdict) reply packet = as_reply (take replied reply) ∷ as_packet (take size packet) ∷ []
@@ -115,7 +115,7 @@ packets_handed handed = among packet_in handed
 -- the answers that do not depend on where a piece was cut: all but "nothing", and refusal 7, after which nothing was taken
 abbrev pub answers_as : Answer → List Answer
 answers_as Nothing = []
-answers_as (Refused n place) = cond (refused_piece (Refused n place)) [] (Refused n place ∷ [])
+answers_as (Refused fault) = cond (refused_piece (Refused fault)) [] (Refused fault ∷ [])
 answers_as (Heard sequence) = Heard sequence ∷ []
 answers_as (Again replied) = Again replied ∷ []
 answers_as (New replied size verdict) = New replied size verdict ∷ []

@@ -2,6 +2,7 @@
 use Rattle.std.specs.Prelude.{ℕ, suc, Bool, true, false, cond, List, [], eqb, ltb, length}
 use Rattle.std.proofs.Math.Option.{Option, some, none}
 use Rattle.refusals.specs.Numbers.{short_output, long_payload, frame_waiting}
+use Rattle.refusals.specs.declared.Refusal.{Refusal}
 use Rattle.frame.specs.Content.{payload_max}
 use Rattle.frame.specs.Writing as writing
 use Rattle.ledger.specs.Ledger.{Held, Sender}
@@ -55,7 +56,7 @@ abbrev pub times_out : Sender → SenderStep
 times_out s = times_out_from s.held s
 
 -- a refused event changes nothing and sends nothing
-abbrev pub refusing : Sender → ℕ → SenderStep
+abbrev pub refusing : Sender → Refusal → SenderStep
 refusing s n = record { sender = s; answer = refused n; output = [] }
 
 -- too little output for the frame going out is 7; an event that sends none asks no room

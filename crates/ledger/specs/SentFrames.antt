@@ -19,7 +19,7 @@ pub data Notice : Type 0 where
 
 abbrev pub notice_of_piece : ℕ → Answer → Notice
 notice_of_piece sequence Nothing = untold
-notice_of_piece sequence (Refused n place) = untold
+notice_of_piece sequence (Refused fault) = untold
 notice_of_piece sequence (Heard other) = cond (eqb other sequence) heard untold
 notice_of_piece sequence (Again replied) = untold
 notice_of_piece sequence (New replied size verdict) = untold

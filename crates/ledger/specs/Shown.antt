@@ -3,6 +3,8 @@ use Rattle.std.specs.Prelude as code
 use Rattle.std.specs.Prelude.{ℕ, ◌%◌, List, [], map, length, get_or}
 use Rattle.std.proofs.Math.Option.{Option, some, none}
 use Rattle.slices.specs.declared.fixed_bytes.FixedBytes.{FixedBytes}
+use Rattle.refusals.specs.declared.Refusal.{Refusal}
+use Rattle.frame.specs.Answers.{fault_at}
 use Rattle.frame.specs.Content.{payload_max}
 use Rattle.rows.specs.Entries as shown
 use Rattle.rows.specs.Names.{place_of}
@@ -13,7 +15,7 @@ use Rattle.rows.specs.declared.State.{State}
 use Rattle.rows.specs.declared.State.TheVariants.{Never, Current, Silent}
 use Rattle.board.specs.Reading as reading
 use Rattle.board.specs.Reading.{Verdict}
-use Rattle.board.specs.declared.reading.Answer as board_answer
+use Rattle.board.specs.declared.reading.Done as board_done
 use Rattle.link.specs.declared.counts.Counts as link_counts
 use Rattle.sender.specs.State.{payload_of, no_payload}
 use Rattle.sender.specs.declared.state.Answer as sender_answer
@@ -61,18 +63,18 @@ abbrev pub as_entry : Entry → shown.Entry
 as_entry entry = record { name = entry.name; state = as_state (row_of entry.last) }
 
 -- the row of an update is its name's place in the watch list (an update is always of a watched name, so none does not come)
-abbrev pub as_updated : ℕ → Option ℕ → board_answer.Answer
-as_updated id (some place) = board_answer.TheVariants.Updated place id
-as_updated id none = board_answer.TheVariants.EndMark id
+abbrev pub as_updated : ℕ → Option ℕ → board_done.Done
+as_updated id (some place) = board_done.TheVariants.Updated place id
+as_updated id none = board_done.TheVariants.EndMark id
 
-abbrev pub as_reading : List (List ℕ) → Verdict → board_answer.Answer
-as_reading names (reading.refused n) = board_answer.TheVariants.Refused n
-as_reading names (reading.end_mark id) = board_answer.TheVariants.EndMark id
-as_reading names (reading.update id name value) = as_updated id (place_of name names)
+abbrev pub as_reading : List (List ℕ) → Verdict → code.Result board_done.Done Refusal
+as_reading names (reading.refused n) = code.Err n
+as_reading names (reading.end_mark id) = code.Ok (board_done.TheVariants.EndMark id)
+as_reading names (reading.update id name value) = code.Ok (as_updated id (place_of name names))
 
 abbrev pub as_answer : List (List ℕ) → answers.Answer → display_answer.Answer
 as_answer names answers.nothing = display_answer.TheVariants.Nothing
-as_answer names (answers.refused n place) = display_answer.TheVariants.Refused n place
+as_answer names (answers.refused n place) = display_answer.TheVariants.Refused (fault_at n place)
 as_answer names (answers.heard sequence) = display_answer.TheVariants.Heard sequence
 as_answer names (answers.again sequence) = display_answer.TheVariants.Again (length (answer_to sequence))
 as_answer names (answers.new sequence payload verdict) =

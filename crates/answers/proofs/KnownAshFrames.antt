@@ -1,9 +1,11 @@
 -- The definitions compute on concrete bytes: the frames of 002, 4.1 and 4.2, its examples of byte stuffing, and the two lengths whose byte
 -- is escaped. What they say of the known frames each call does.
+use Rattle.std.specs.Prelude.{Result, Ok}
 use mathlib.Core.Path.{◌≡◌, refl, ap, ◌∙◌}
 use mathlib.Core.List.{List, [], ◌∷◌}
 use Prim.Native.Nat.{ℕ, ◌≤◌}
 use lib.ListN.{length}
+use Rattle.refusals.specs.declared.Refusal.{Refusal}
 use Rattle.slices.specs.Put.{put_at}
 use Rattle.slices.specs.Each.{each}
 use Rattle.slices.specs.Same.{same_bytes}
@@ -16,10 +18,8 @@ use Rattle.slices.specs.Written.{written, fitted}
 use Rattle.ash.specs.KnownFrames.{reset_frame, reset_ack_frame}
 use Rattle.ash.specs.Writing.{frame_of, write_frame}
 use Rattle.ash.specs.Reading.{frame, read_by_length, read_by_header, read_frame}
-use Rattle.ash.specs.declared.reader.FrameRead.{FrameRead}
-use Rattle.ash.specs.declared.reader.FrameRead.TheVariants.{Frame}
-use Rattle.slices.specs.declared.Written.{Written}
-use Rattle.slices.specs.declared.Written.TheVariants.{Length}
+use Rattle.ash.specs.Answers.{frame_read}
+use Rattle.ash.specs.declared.reader.Frame.{Frame}
 use Rattle.ash.proofs.FrameTheorems.{written_read_back}
 use Rattle.ash.proofs.Calls.{Writes, Reads}
 use Rattle.ash.proofs.FrameCalls.{call_reads, call_writes}
@@ -34,17 +34,17 @@ known_read = (refl, refl)
 
 -- a frame without payload, sent and read by calls
 pub record Known (control : ℕ) (bytes : List ℕ) : Type 0 where
-  pub sends : (out : List ℕ) (answer : Written) (sent : List ℕ) → Writes control [] out answer sent → 7 ≤ length out
-      → (answer ≡ Length 7) × (sent ≡ put_at out 0 bytes)
-  pub reads : (before : List ℕ) (answer : FrameRead) (after : List ℕ) → Reads bytes before answer after → payload_max ≤ length before
-      → (answer ≡ Frame control 0) × (after ≡ before)
+  pub sends : (out : List ℕ) (answer : Result ℕ Refusal) (sent : List ℕ) → Writes control [] out answer sent → 7 ≤ length out
+      → (answer ≡ Ok 7) × (sent ≡ put_at out 0 bytes)
+  pub reads : (before : List ℕ) (answer : Result Frame Refusal) (after : List ℕ) → Reads bytes before answer after → payload_max ≤ length before
+      → (answer ≡ Ok (frame_read control 0)) × (after ≡ before)
 
 known : (control : ℕ) (bytes : List ℕ) → length bytes ≡ 7 → write_frame 7 control [] ≡ written bytes → Known control bytes
 known control bytes size e =
     record {
       sends = λ out answer sent w fits.
           let told = call_writes control [] bytes 7 out answer sent e w (rw size fits) in
-          (told.0 ∙ ap Length size, told.1);
+          (told.0 ∙ ap Ok size, told.1);
       reads = λ before answer after r asked.
           call_reads bytes control [] before answer after (written_read_back 7 control [] bytes (length before) e asked) r;
     }

@@ -6,6 +6,7 @@ use mathlib.Core.Logic.{inr}
 use Prim.Native.Nat.{ℕ, zero, suc}
 use native.Mathlib.Omega.{arith}
 use lib.ListN.{get_or, replicate}
+use Rattle.refusals.specs.Numbers.{bad_check}
 use Rattle.slices.specs.Each.{each}
 use Rattle.frame.specs.Content.{payload_max, frame, refused}
 use Rattle.frame.specs.Damage.{EscapesStay, PairDamaged, BurstDamaged}
@@ -54,7 +55,7 @@ pair_damaged =
     }
 
 pub pair_seen : (read_frame payload_max (between_flags case_1) ≡ frame 0x02 0x01 letters)
-    × (read_frame payload_max (between_flags swapped) ≡ refused 4 9)
+    × (read_frame payload_max (between_flags swapped) ≡ refused bad_check 9)
 unfolding frame_steps read_frame flagged_bytes first_flag
 pair_seen = (refl, refl)
 

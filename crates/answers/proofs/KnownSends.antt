@@ -5,6 +5,7 @@ use mathlib.Core.List.{List, [], ◌∷◌}
 use Prim.Native.Nat.{ℕ}
 use lib.ListN.{replicate}
 use native.Mathlib.Omega.{arith}
+use Rattle.refusals.specs.Numbers.{short_output, long_payload, frame_waiting}
 use Rattle.slices.specs.Written.{fitted}
 use Rattle.frame.specs.Writing.{write_content, write_frame}
 use Rattle.rows.specs.Rows.{row_count, board_of}
@@ -53,7 +54,7 @@ lost =
 abbrev lost_left : List Left
 lost_left =
     outgoing (Sent 0 7) first
-    ∷ outgoing (says.Refused 7) (room 6)
+    ∷ outgoing (says.Refused short_output) (room 6)
     ∷ outgoing (Repeated 0 7) first
     ∷ outgoing (Repeated 0 7) first
     ∷ outgoing (Dropped 0) []
@@ -84,11 +85,11 @@ heard =
 abbrev heard_left : List Left
 heard_left =
     outgoing (Sent 0 7) (0x7e ∷ 0x01 ∷ 0x00 ∷ 0x41 ∷ 0xa3 ∷ 0x49 ∷ 0x7e ∷ 0 ∷ [])
-    ∷ outgoing (says.Refused 25) []
+    ∷ outgoing (says.Refused frame_waiting) []
     ∷ took 6 (Heard 1) (room 9) (room 383)
     ∷ outgoing (Repeated 0 7) first
     ∷ took 5 (Heard 0) (room 9) (room 383)
-    ∷ outgoing (says.Refused 8) []
+    ∷ outgoing (says.Refused long_payload) []
     ∷ []
 
 -- THEOREM. Every display that watches h1 and is given these calls answers them so.
@@ -122,7 +123,7 @@ pub record Statuses : Type 0 where
   pub waits : status_of 0 0 [] ≡ held 0
   pub waits_repeated : status_of 0 0 (outgoing (Repeated 0 7) first ∷ took 6 (Heard 1) (room 9) (room 383) ∷ []) ≡ held 1
   pub is_heard :
-      status_of 0 0 (outgoing (Repeated 0 7) first ∷ took 5 (Heard 0) (room 9) (room 383) ∷ outgoing (says.Refused 8) [] ∷ []) ≡ acknowledged 1
+      status_of 0 0 (outgoing (Repeated 0 7) first ∷ took 5 (Heard 0) (room 9) (room 383) ∷ outgoing (says.Refused long_payload) [] ∷ []) ≡ acknowledged 1
   pub others : status_of 0 0 (outgoing (Sent 1 6) second ∷ outgoing (Repeated 1 6) second ∷ outgoing (Dropped 1) [] ∷ outgoing says.Nothing [] ∷ []) ≡ held 0
   pub is_dropped : status_of 0 0 (outgoing (Repeated 0 7) first ∷ outgoing (Repeated 0 7) first ∷ outgoing (Dropped 0) [] ∷ []) ≡ dropped 2
 

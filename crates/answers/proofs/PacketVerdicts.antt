@@ -4,6 +4,7 @@ use mathlib.Core.Path.{◌≡◌, refl}
 use mathlib.Core.List.{List, [], ◌∷◌}
 use Prim.Native.Nat.{ℕ}
 use lib.IntN.{pos, negsuc}
+use Rattle.refusals.specs.Numbers.{no_data_packet, bad_items, other_opcode, bad_name, bad_value, not_watched}
 use Rattle.board.specs.Reading.{refused, end_mark, update, reading_of}
 use Rattle.answers.proofs.Steps.{packet_steps}
 
@@ -25,16 +26,16 @@ pub readings :
     -- 7: 02 02 ff 38 is -200
     × (reading_of (h1 ∷ []) (updating (named (0x02 ∷ 0x02 ∷ 0xff ∷ 0x38 ∷ []))) ≡ update 0 h1 (negsuc 199))
     -- 9: 02 03 00 00 01 is refusal 13, and so is a Name with nothing behind it
-    × (reading_of (h1 ∷ []) (updating (named (0x02 ∷ 0x03 ∷ 0x00 ∷ 0x00 ∷ 0x01 ∷ []))) ≡ refused 13)
-    × (reading_of (h1 ∷ []) (updating (named [])) ≡ refused 13)
+    × (reading_of (h1 ∷ []) (updating (named (0x02 ∷ 0x03 ∷ 0x00 ∷ 0x00 ∷ 0x01 ∷ []))) ≡ refused bad_value)
+    × (reading_of (h1 ∷ []) (updating (named [])) ≡ refused bad_value)
     -- no Name but an EOF item is an end mark, neither is refusal 12, and so are two Names
     × (reading_of (h1 ∷ []) (updating (0x14 ∷ 0x00 ∷ [])) ≡ end_mark 0)
-    × (reading_of (h1 ∷ []) (updating []) ≡ refused 12)
-    × (reading_of (h1 ∷ []) (updating (named (named []))) ≡ refused 12)
+    × (reading_of (h1 ∷ []) (updating []) ≡ refused bad_name)
+    × (reading_of (h1 ∷ []) (updating (named (named []))) ≡ refused bad_name)
     -- a name that is not watched is 14, another opcode 11, a cut item 10, a packet of three bytes 9
-    × (reading_of [] (updating (named (0x02 ∷ 0x01 ∷ 0x01 ∷ []))) ≡ refused 14)
-    × (reading_of (h1 ∷ []) (0x01 ∷ 0x0b ∷ 0x00 ∷ 0x00 ∷ []) ≡ refused 11)
-    × (reading_of (h1 ∷ []) (updating (0x01 ∷ 0x02 ∷ 0x68 ∷ [])) ≡ refused 10)
-    × (reading_of (h1 ∷ []) (0x01 ∷ 0x03 ∷ 0x00 ∷ []) ≡ refused 9)
+    × (reading_of [] (updating (named (0x02 ∷ 0x01 ∷ 0x01 ∷ []))) ≡ refused not_watched)
+    × (reading_of (h1 ∷ []) (0x01 ∷ 0x0b ∷ 0x00 ∷ 0x00 ∷ []) ≡ refused other_opcode)
+    × (reading_of (h1 ∷ []) (updating (0x01 ∷ 0x02 ∷ 0x68 ∷ [])) ≡ refused bad_items)
+    × (reading_of (h1 ∷ []) (0x01 ∷ 0x03 ∷ 0x00 ∷ []) ≡ refused no_data_packet)
 unfolding packet_steps
 readings = (refl, refl, refl, refl, refl, refl, refl, refl, refl, refl, refl)

@@ -1,6 +1,9 @@
 -- 01, Known answers: each case as the definitions that the contracts cite compute it, beside the answer that 01 gives.
+use Rattle.std.specs.Prelude as code
 use Rattle.std.specs.Prelude.{ℕ, zero, suc, ◌-◌, List, [], ◌∷◌, map, ℤ, pos, negsuc, replicate}
 use Rattle.std.proofs.Math.Option.{Option, some}
+use Rattle.refusals.specs.Numbers.{bad_value}
+use Rattle.refusals.specs.declared.Refusal.{Refusal}
 use Rattle.crc.specs.Crc.{link_start, crc_of}
 use Rattle.frame.specs.Content.{Read, frame}
 use Rattle.slices.specs.Written.{Output, written}
@@ -13,7 +16,7 @@ use Rattle.rows.specs.declared.Row as row
 use Rattle.rows.specs.declared.State.{State}
 use Rattle.rows.specs.declared.State.TheVariants.{Never, Current, Silent}
 use Rattle.board.specs.Reading.{read_board}
-use Rattle.board.specs.declared.reading.Answer as board
+use Rattle.board.specs.declared.reading.Done as board
 use Rattle.value.specs.Value.{value_of}
 use Rattle.display.specs.Display.{Outcome, receive_piece, fresh}
 use Rattle.display.specs.declared.Answer.{Answer}
@@ -30,7 +33,7 @@ pub data Result : Type 0 where
   frame_read : Read → Result
   bytes : List ℕ → Result
   value : Option ℤ → Result
-  packet_read : board.Answer → Result
+  packet_read : code.Result board.Done Refusal → Result
   rows : List Row → Result
   states : List State → Result
   displayed : Answer → List ℕ → List State → Result
@@ -105,12 +108,12 @@ table =
     ∷ given 6 (rows (map shown (after (start (h1 ∷ h2 ∷ [])) (piece frame6 (replicate 9 0) (replicate 383 0) ∷ [])).hives.entries))
     (rows (current (pos 3450) 0 ∷ never ∷ []))
     ∷ given 6 (outcome (receive_piece (fresh (board_of row_count (h1 ∷ h2 ∷ []))) frame6 9 383))
-    (displayed (New 6 14 (board.TheVariants.Updated 0 0)) (0x7e ∷ 0x02 ∷ 0x00 ∷ 0x7b ∷ 0x6d ∷ 0x7e ∷ []) (Current (pos 3450) 0 ∷ others))
+    (displayed (New 6 14 (code.Ok (board.TheVariants.Updated 0 0))) (0x7e ∷ 0x02 ∷ 0x00 ∷ 0x7b ∷ 0x6d ∷ 0x7e ∷ []) (Current (pos 3450) 0 ∷ others))
     ∷ given 7 (value (value_of 0x02 (0xff ∷ 0x38 ∷ []))) (value (some (negsuc 199)))
     ∷ given 7 (value (value_of 0x02 (0x80 ∷ []))) (value (some (negsuc 127)))
     ∷ given 8 (value (value_of 0x16 (0x00 ∷ 0x00 ∷ 0x26 ∷ 0x90 ∷ []))) (value (some (pos 9872)))
     ∷ given 9 (packet_read (read_board (board_of row_count (h1 ∷ [])) (valued (0x02 ∷ 0x03 ∷ 0x00 ∷ 0x00 ∷ 0x01 ∷ []))).answer)
-    (packet_read (board.TheVariants.Refused 13))
+    (packet_read (code.Err bad_value))
     ∷ given 10 (rows (row_of (some (record { value = pos 1; ticks = 29 })) ∷ row_of (older (some (record { value = pos 1; ticks = 29 }))) ∷ []))
     (rows (current (pos 1) 29 ∷ silent ∷ []))
     ∷ given 10 (states (states_of (ticked 29 just_updated))) (states (Current (pos 1) 29 ∷ others))

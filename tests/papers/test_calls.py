@@ -20,7 +20,7 @@ NAME_AS_VALUE = re.compile(r"[(,]\s*([a-z_]\w*)\s*(?=[,)])")
 IMPORT = re.compile(r"^(?:pub(?:\(crate\))? )?use ([^;]+);", re.M)
 # Comments, attributes, contracts, and what only contracts use.
 NO_CODE = re.compile(r"//.*|^ *#!?\[.*\]$|^ *ghost .*|^ +(?:requires|ensures)\*?(?: \w+)? \{.*\}$", re.M)
-NO_CALLS = {"if", "while", "match", "return", "for", "in"}
+NO_CALLS = {"if", "while", "match", "return", "for", "in", "let"}
 # Forms of the language that this reader of calls does not follow; none of them is in use.
 NOT_READ = re.compile(r"\bself::|\bsuper::|\buse [^;]* as |\buse [^;]*\*|\btrait\b|\bmacro_rules\b")
 OUTSIDE = {"std"}

@@ -9,7 +9,7 @@ ghost use Rattle.rows.specs.Rows.{row_names};
 ghost use Rattle.board.specs.Reading.{read_board, refused_with, updated};
 ghost use Rattle.board.specs.ReadingSteps.{task_of, task_of_items, read_update};
 
-use packet::{EOF_KIND, Item, Look, NAME_KIND, count, look_for, valid_name, value_at};
+use packet::{EOF_KIND, Item, Look, NAME_KIND, look_for, valid_name, value_at};
 use refusals::Refusal;
 use rows::{Board, find, update};
 use value::read_value;
@@ -85,10 +85,17 @@ fn judge_items(packet: &[u8], names: Look) -> Result<Task, Refusal>
             behind: names.behind,
         });
     }
-    if names.count == 0 && 0 < count(packet, EOF_KIND) {
+    if names.count == 0 && 0 < count_ends(packet) {
         return Ok(Task::Finish { id });
     }
     Err(Refusal::BadName)
+}
+
+// How many EOF items a packet has.
+fn count_ends(packet: &[u8]) -> usize
+    ensures { result ≡ count_of eof_kind (packet_items packet.now) }
+{
+    look_for(packet, EOF_KIND).map_or(0, |ends| ends.count)
 }
 
 // Reads the Name, then the value item right behind it, then the row.

@@ -49,7 +49,7 @@ pub record ChangesNothing (c : Call) (left : Left) (before behind : Display) : T
   pub buffers_kept : left_in left ≡ lent_to c
   pub no_event : events_of c left ≡ []
 
--- the number of a refused send or timeout
+-- why a send or a timeout was refused
 record Refusal (answer : sender_answer.Answer) : Type 0 where
   number : refusals.Refusal
   is : answer ≡ sender_says.Refused number

@@ -25,7 +25,7 @@ pub fn check(start: u16, bytes: &[u8]) -> u16
     check_by_two(register, rest)
 }
 
-// The same, two bytes at a time, and the byte that this leaves by the table.
+// The same, two bytes at a time. The table is lent only where a byte is left.
 fn check_by_two(start: u16, bytes: &[u8]) -> u16
     ensures { result ≡ crc_of start bytes.now }
 {
@@ -33,6 +33,9 @@ fn check_by_two(start: u16, bytes: &[u8]) -> u16
     let (pairs, rest) = bytes.as_chunks::<2>();
     for pair in pairs {
         register = check_pair(register, pair[0], pair[1]);
+    }
+    if rest.is_empty() {
+        return register;
     }
     check_by_table(register, rest)
 }

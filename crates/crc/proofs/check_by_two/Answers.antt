@@ -1,8 +1,9 @@
-use mathlib.Core.Path.{◌≡◌, ◌∙◌}
-use Prim.Native.Nat.{◌/◌}
+use mathlib.Core.Path.{◌≡◌, sym, ◌∙◌}
+use Prim.Native.Nat.{◌/◌, ◌*◌, ◌≤◌}
 use native.Mathlib.Omega.{arith}
 use lib.ListN.{length}
 use Rattle.std.specs.Simd.{first_chunks}
+use Rattle.crc.proofs.CrcLaws.{all_added}
 use Rattle.crc.proofs.ReadBytes.{pair_read}
 use Rattle.crc.proofs.check_by_two.Goals as goal
 
@@ -12,3 +13,8 @@ loop-pair-preserved c =
     pair_read (length c.args.bytes.now / 2) c.args.bytes.now c.loop-pair.pair-index c.loop-pair.register c.check_pair-register.result (omega arith) (omega arith)
     (rw (← parts) c.check_pair-register.ensures)
     ∙ c.loop-pair.invariant
+
+pub returns-then-is_empty : goal.returns-then-is_empty
+returns-then-is_empty c =
+    let all : length c.args.bytes.now ≤ c.loop-pair.pair-index * 2 = grind arith in
+    sym (all_added c.loop-pair.register c.args.bytes.now (c.loop-pair.pair-index * 2) all) ∙ c.loop-pair.invariant

@@ -9,12 +9,18 @@ use borrow.Author.Tests.{le-ltb}
 use Rattle.refusals.specs.Numbers.{bad_framing, long_content}
 use Rattle.slices.proofs.Impossible.{impossible}
 use Rattle.frame.specs.Stuffing.{escape_byte, escaped_flag, escaped_escape, content_max, plain, refused, unstuff_from, unstuff}
-use Rattle.frame.specs.Places.{BadEscape, OneByte, PassesLimit}
+use Rattle.frame.specs.Places.{after_escape, BadEscape, OneByte, PassesLimit}
 use Rattle.frame.proofs.BrokenLaws.{broke}
 use Rattle.frame.proofs.FollowLaws.{prefixed, unstuff_append}
-use Rattle.frame.proofs.UnstuffLaws.{plain_byte, escape_refused}
+use Rattle.frame.proofs.UnstuffLaws.{plain_byte, escaped_fault}
 
 -- a run that is broken so is refused there
+escape_refused : (held before : ℕ) (behind : List ℕ) → (after_escape behind ≡ escaped_flag → ⊥) → (after_escape behind ≡ escaped_escape → ⊥)
+    → unstuff_from plain held before (escape_byte ∷ behind) ≡ refused bad_framing (before + 2)
+unfolding unstuff_from
+escape_refused held before [] no_flag no_escape = ap (refused bad_framing) (omega arith)
+escape_refused held before (y ∷ behind) no_flag no_escape = rw (escaped_fault y no_flag no_escape) (ap (refused bad_framing) (omega arith))
+
 passing_refused : (held before : ℕ) (passing behind : List ℕ) → content_max ≤ held → OneByte passing
     → unstuff_from plain held before (passing ++ behind) ≡ refused long_content (before + length passing)
 unfolding unstuff_from

@@ -1,16 +1,33 @@
--- A fault is met within so many sent bytes: each byte of content takes at most two, and the 388th is refused.
-use mathlib.Core.Path.{◌≡◌, refl}
+-- So many sent bytes settle the verdict of a run, whatever follows: each byte of content takes at most two, and the 388th is refused.
+use mathlib.Core.Path.{◌≡◌, refl, ap}
 use mathlib.Core.Bool.{Bool, true, false, cond}
 use mathlib.Core.List.{List, [], ◌∷◌}
-use Prim.Native.Nat.{ℕ, suc, ◌+◌, ◌*◌, ◌≤◌, ◌<◌}
+use Prim.Native.Nat.{ℕ, zero, suc, ◌+◌, ◌-◌, ◌*◌, ◌≤◌, ◌<◌}
 use native.Mathlib.Omega.{arith}
 use lib.Dec.{eqb, ltb}
+use lib.ListN.{take}
 use borrow.Author.Tests.{ltb-true}
 use Rattle.refusals.specs.Numbers.{long_content}
 use Rattle.refusals.specs.declared.Refusal.{Refusal}
 use Rattle.slices.proofs.Impossible.{impossible}
 use Rattle.frame.proofs.BoundLaws.{joined_refused}
 use Rattle.frame.specs.Stuffing.{State, plain, escaped, Meaning, escapes_next, stands_for, faulty, meaning, Unstuffed, refused, joined, taken, content_max, sent_max, unstuff_from, unstuff}
+
+-- how many they are, with `held` bytes of content before them
+abbrev Enough : State → ℕ → ℕ → Type 0
+Enough plain held n = 2 * (suc content_max - held) ≤ n
+Enough escaped held n = 2 * (suc content_max - held) ≤ n + 1
+
+taken_alike : (m : Meaning) (held place : ℕ) (f g : State → ℕ → Unstuffed) → (m ≡ escapes_next → f escaped held ≡ g escaped held)
+    → (held < content_max → f plain (suc held) ≡ g plain (suc held)) → taken m held place f ≡ taken m held place g
+taken_alike escapes_next held place f g escape byte = escape refl
+taken_alike (stands_for v) held place f g escape byte = cases (ltb held content_max) refl
+  where
+    cases : (t : Bool) → ltb held content_max ≡ t
+        → cond t (joined v (f plain (suc held))) (refused long_content place) ≡ cond t (joined v (g plain (suc held))) (refused long_content place)
+    cases true e = ap (joined v) (byte (ltb-true held content_max e))
+    cases false e = refl
+taken_alike faulty held place f g escape byte = refl
 
 pub no_escape : (b : ℕ) → meaning escaped b ≡ escapes_next → ⊥
 no_escape b e = cases (eqb b 0x5e) (eqb b 0x5d) e
@@ -20,7 +37,23 @@ no_escape b e = cases (eqb b 0x5e) (eqb b 0x5d) e
     cases false true e = impossible cc
     cases false false e = impossible cc
 
--- with `held` bytes of content before it
+take_enough : (s : State) (held place n : ℕ) (bytes : List ℕ) → held ≤ content_max → Enough s held n
+    → unstuff_from s held place (take n bytes) ≡ unstuff_from s held place bytes
+unfolding unstuff_from
+take_enough s held place zero [] h e = refl
+take_enough s held place (suc n) [] h e = refl
+take_enough plain held place zero (b ∷ bs) h e = absurd (omega arith)
+take_enough escaped held place zero (b ∷ bs) h e = absurd (omega arith)
+take_enough plain held place (suc n) (b ∷ bs) h e =
+    taken_alike (meaning plain b) held (suc place) (λ s₁ held₁. unstuff_from s₁ held₁ (suc place) (take n bs)) (λ s₁ held₁. unstuff_from s₁ held₁ (suc place) bs)
+    (λ f. take_enough escaped held (suc place) n bs h (omega arith))
+    (λ room. take_enough plain (suc held) (suc place) n bs room (omega arith))
+take_enough escaped held place (suc n) (b ∷ bs) h e =
+    taken_alike (meaning escaped b) held (suc place) (λ s₁ held₁. unstuff_from s₁ held₁ (suc place) (take n bs)) (λ s₁ held₁. unstuff_from s₁ held₁ (suc place) bs)
+    (λ f. absurd (no_escape b f))
+    (λ room. take_enough plain (suc held) (suc place) n bs room (omega arith))
+
+-- and a fault is met within them
 abbrev Within : State → ℕ → ℕ → ℕ → Type 0
 Within plain held before place = place + 2 * held ≤ before + sent_max
 Within escaped held before place = place + 2 * held < before + sent_max

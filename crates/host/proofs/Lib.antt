@@ -1,4 +1,3 @@
-pub mod NumberLaws
 pub mod ReportLaws
 pub mod HostCalls
 pub mod DamagedFrames

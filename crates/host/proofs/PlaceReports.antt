@@ -17,7 +17,7 @@ use Rattle.frame.proofs.RefusalLaws.{run_number, reader_number}
 use Rattle.frame.proofs.RunPlaces.{run_places, escape_read, limit_read, check_read}
 use Rattle.frame.proofs.PlaceCalls.{frame_is_run, other_place}
 use Rattle.host.specs.Report.{report_of, refusal_in, place_in, read_report, PlacesReported}
-use Rattle.host.proofs.NumberLaws.{same_refusal}
+use Rattle.refusals.proofs.NumberLaws.{same_refusal}
 use Rattle.host.proofs.ReportLaws.{parts_read}
 use Rattle.host.proofs.HostCalls.{Reads, was_read}
 

@@ -4,7 +4,7 @@ ghost use Rattle.std.specs.Prelude.{◌≡◌};
 ghost use Rattle.refusals.specs.Numbers.{number_of};
 
 // Why a call was refused, in the order of the numbers.
-#[derive(Clone, Copy, Debug, PartialEq, Eq, Hash)]
+#[derive(Clone, Copy, PartialEq, Eq)]
 pub enum Refusal {
     // An escape byte is followed by a byte other than 5d or 5e, or a whole frame has wrong flags.
     BadFraming = 1,

@@ -3,8 +3,13 @@
 use mathlib.Core.Path.{◌≡◌, sym, ap, ap₂, ◌∙◌}
 use Prim.Native.Nat.{ℕ, ◌*◌, ◌^◌}
 use native.Mathlib.Nat.{add-zero}
-use lib.Bits.{bit_xor, xor_assoc, xor_comm, xor_block, xor_self, xor_zero_l, xor_zero_r}
+use lib.Bits as bits
+use lib.Bits.{bit_xor, xor_comm, xor_block, xor_self, xor_zero_l, xor_zero_r}
 use lib.Pow.{pow_pos}
+
+-- the sum of three has no order
+pub xor_assoc : (a b c : ℕ) → bit_xor (bit_xor a b) c ≡ bit_xor a (bit_xor b c)
+xor_assoc = bits.xor_assoc
 
 -- the two in the middle change places
 pub xor_swap : (a b c d : ℕ) → bit_xor (bit_xor a b) (bit_xor c d) ≡ bit_xor (bit_xor a c) (bit_xor b d)

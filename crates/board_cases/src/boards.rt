@@ -1,5 +1,5 @@
 // Watch lists and packets, and the boards that they give.
-use board::{Answer, Listed};
+use board::Done;
 use cases::{line, print};
 use rows::Board;
 
@@ -7,8 +7,8 @@ pub(crate) fn show_list(rt: &impl Print, line: &[u8], fields: &[u8]) {
     line::label(rt, line);
     let watched = board::watch_list(fields);
     match watched.answer {
-        Listed::Accepted => print::text(rt, b": accepted"),
-        Listed::Refused(number) => print::number(rt, b": refused ", number as u64),
+        Ok(()) => print::text(rt, b": accepted"),
+        Err(refusal) => print::number(rt, b": refused ", refusal.number() as u64),
     }
     print::text(rt, b"\n");
     let _ = reports::rows(rt, watched.board);
@@ -19,12 +19,12 @@ pub(crate) fn show_reading(rt: &impl Print, line: &[u8], packet: &[u8]) {
     line::label(rt, line);
     let reading = board::read(rows::tick(updated()), packet);
     match reading.answer {
-        Answer::Updated { row, id } => {
+        Ok(Done::Updated { row, id }) => {
             print::number(rt, b": row ", row as u64);
             print::number(rt, b" id ", id as u64);
         }
-        Answer::EndMark { id } => print::number(rt, b": end mark, id ", id as u64),
-        Answer::Refused(number) => print::number(rt, b": refused ", number as u64),
+        Ok(Done::EndMark { id }) => print::number(rt, b": end mark, id ", id as u64),
+        Err(refusal) => print::number(rt, b": refused ", refusal.number() as u64),
     }
     print::text(rt, b"\n");
     let _ = reports::rows(rt, reading.board);

@@ -11,7 +11,6 @@ mod boards;
 use boards::{case_6, show_list, show_reading, updated};
 use cases::{line, print};
 use rows::Board;
-use value::Value;
 
 pub fn run(rt: &impl Print, line: &[u8], bytes: &[u8]) {
     match line::key(line) {
@@ -31,10 +30,10 @@ fn show_value(rt: &impl Print, line: &[u8], bytes: &[u8]) {
     };
     line::label(rt, line);
     match value::read_value(*kind, content) {
-        Value::Number(number) => {
+        Some(number) => {
             let _ = println!(rt; " {number}");
         }
-        Value::Bad => print::text(rt, b" bad\n"),
+        None => print::text(rt, b" bad\n"),
     }
 }
 

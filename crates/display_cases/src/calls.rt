@@ -1,10 +1,12 @@
 // Calls of the display, and what they answer.
 ghost use Rattle.std.specs.Prelude.{◌≡◌};
 
+use board::Done;
 use cases::print;
 use display::{Answer, Display};
 use frame::PAYLOAD_MAX;
 use link::receiver::REPLY_ROOM;
+use refusals::Refusal;
 
 // Calls with a reply buffer, then with a packet buffer that is a byte too short.
 pub(crate) fn short_buffers(rt: &impl Print, display: Display, piece: &[u8]) -> Display {
@@ -38,9 +40,9 @@ pub(crate) fn show_answer(
     print::number(rt, b"taken ", taken as u64);
     match answer {
         Answer::Nothing => print::text(rt, b" nothing"),
-        Answer::Refused { number, place } => {
-            print::number(rt, b" refused ", number as u64);
-            print::number(rt, b" place ", place as u64);
+        Answer::Refused(fault) => {
+            print::number(rt, b" refused ", fault.refusal.number() as u64);
+            print::number(rt, b" place ", fault.place as u64);
         }
         Answer::Heard(sequence) => print::number(rt, b" heard ", sequence as u64),
         Answer::Again(length) => print::bytes(rt, b" again reply ", reply, length),
@@ -57,14 +59,14 @@ pub(crate) fn show_answer(
     print::text(rt, b"\n");
 }
 
-fn show_reading(rt: &impl Print, reading: board::Answer) {
+fn show_reading(rt: &impl Print, reading: Result<Done, Refusal>) {
     match reading {
-        board::Answer::Updated { row, id } => {
+        Ok(Done::Updated { row, id }) => {
             print::number(rt, b" row ", row as u64);
             print::number(rt, b" id ", id as u64);
         }
-        board::Answer::EndMark { id } => print::number(rt, b" end mark, id ", id as u64),
-        board::Answer::Refused(number) => print::number(rt, b" unread ", number as u64),
+        Ok(Done::EndMark { id }) => print::number(rt, b" end mark, id ", id as u64),
+        Err(refusal) => print::number(rt, b" unread ", refusal.number() as u64),
     }
 }
 

@@ -103,9 +103,9 @@ fn marked(check: u16, answer: Answer, reply: &[u8], packet: &[u8]) -> u16 {
 
 // A refusal counts with its number and its place.
 fn refusal_marked(check: u16, answer: Answer) -> u16 {
-    let Answer::Refused { number, place } = answer else {
+    let Answer::Refused(fault) = answer else {
         return check;
     };
-    let told = [number, (place / 0x100 % 0x100) as u8, (place % 0x100) as u8];
-    crc::check(check, &told)
+    let [.., high, low] = fault.place.to_be_bytes();
+    crc::check(check, &[fault.refusal.number(), high, low])
 }

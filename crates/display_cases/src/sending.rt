@@ -4,7 +4,7 @@ ghost use Rattle.std.specs.Prelude.{◌≡◌};
 use cases::buffer::UNTOUCHED;
 use cases::{line, print};
 use display::{Display, Outgoing};
-use sender::{Answer, Held, Payload};
+use sender::{Answer, Payload};
 
 // The longest output that is lent: the longest frame of ours has 774 bytes.
 const OUTPUT_MAX: usize = 800;
@@ -40,7 +40,7 @@ fn shown(rt: &impl Print, sent: Outgoing, output: &[u8]) -> Display
 fn show_answer(rt: &impl Print, answer: Answer) {
     match answer {
         Answer::Nothing => print::text(rt, b"nothing"),
-        Answer::Refused(number) => print::number(rt, b"refused ", number as u64),
+        Answer::Refused(refusal) => print::number(rt, b"refused ", refusal.number() as u64),
         Answer::Sent { sequence, length } => show_frame(rt, b"sent ", sequence, length),
         Answer::Repeated { sequence, length } => show_frame(rt, b"repeated ", sequence, length),
         Answer::Dropped(sequence) => print::number(rt, b"dropped ", sequence as u64),
@@ -59,10 +59,10 @@ pub(crate) fn show_sender(rt: &impl Print, display: Display) -> Display
     let sender = display.sender;
     print::number(rt, b"next ", sender.next as u64);
     match sender.held {
-        Held::Nothing => print::text(rt, b" held nothing"),
-        Held::Frame { sequence, repeats } => {
-            print::number(rt, b" held ", sequence as u64);
-            print::number(rt, b" repeats ", repeats as u64);
+        None => print::text(rt, b" held nothing"),
+        Some(held) => {
+            print::number(rt, b" held ", held.sequence as u64);
+            print::number(rt, b" repeats ", held.repeats as u64);
             show_payload(rt, sender.payload);
         }
     }
@@ -71,9 +71,5 @@ pub(crate) fn show_sender(rt: &impl Print, display: Display) -> Display
 }
 
 fn show_payload(rt: &impl Print, payload: Payload) {
-    print::hex(
-        rt,
-        b" payload ",
-        slices::first(&payload.bytes, payload.length),
-    );
+    print::hex(rt, b" payload ", payload.as_slice());
 }

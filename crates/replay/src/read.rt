@@ -2,7 +2,6 @@
 ghost use Rattle.std.specs.Prelude.{IfOk};
 ghost use Rattle.display.specs.Taking.{Takes};
 
-use board::Listed;
 use display::{Answer, Display};
 use frame::PAYLOAD_MAX;
 use history::fields::{FIELD_MAX, Head};
@@ -72,9 +71,7 @@ fn fill(input: &mut impl Read, bytes: &mut [u8]) -> Result<(), Fault> {
 // No byte has come yet, so the display starts anew with each name.
 fn list(display: &mut Display, name: &[u8]) -> Result<(), Fault> {
     let watched = board::watch(display.board, name);
-    if let Listed::Refused(_) = watched.answer {
-        return Err(Fault::Broken);
-    }
+    watched.answer.map_err(|_| Fault::Broken)?;
     *display = display::start(watched.board);
     Ok(())
 }
@@ -107,6 +104,6 @@ fn print_reply(rt: &impl Print, answer: Answer, reply: &[u8]) -> io::Result<()> 
         Answer::New { reply: length, .. } | Answer::Again(length) => {
             reports::reply(rt, reply, length)
         }
-        Answer::Nothing | Answer::Refused { .. } | Answer::Heard(_) => Ok(()),
+        Answer::Nothing | Answer::Refused(_) | Answer::Heard(_) => Ok(()),
     }
 }

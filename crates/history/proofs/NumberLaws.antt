@@ -5,7 +5,8 @@ use mathlib.Core.List.{List, ◌∷◌}
 use Prim.Native.Nat.{ℕ, zero, suc, ◌-◌, ◌/◌, ◌%◌, ◌≤◌, ◌<◌}
 use native.Mathlib.Omega.{arith}
 use borrow.Author.Tests.{lt-ltb, le-ltb}
-use lib.ListN.{length, drop, set, length-set}
+use lib.ListN.{length, take, drop, set, length-set, length-drop}
+use lib.Seq.{take_all}
 use Rattle.std.proofs.lemmas.List.{drop-set}
 use native.Mathlib.Numerals.{add-one}
 use mathlib.Core.Bool.{true}
@@ -21,6 +22,13 @@ use Rattle.history.specs.Numbers.{digit, digits_before, decimal_of, signed_of}
 abbrev pub Spelling : ℕ → List ℕ → ℕ → ℕ → Type 0
 Spelling number digits left rest = (length digits ≡ 20) × (digits_before left rest (drop left digits) ≡ decimal_of number)
 
+-- what stands from a place on, in as many places as there are
+abbrev pub text_from : ℕ → List ℕ → List ℕ
+text_from first digits = take (20 - first) (drop first digits)
+
+from_length : (first : ℕ) (digits : List ℕ) → length digits ≡ 20 → text_from first digits ≡ drop first digits
+from_length first digits size = take_all (20 - first) (drop first digits) (simp length-drop (omega (arith, size)))
+
 -- the last digit of the rest is put before them, and the rest is divided by ten
 pub next_digit : (number : ℕ) (digits : List ℕ) (left rest : ℕ) → 0 < left → left ≤ 20 → (rest / 10 ≡ 0 → ⊥) → Spelling number digits left rest
     → Spelling number (set digits (left - 1) (digit (rest % 10))) (left - 1) (rest / 10)
@@ -34,19 +42,21 @@ next_digit number digits (suc left) rest some room more s =
 
 -- the first digit makes the text whole
 pub first_digit : (number : ℕ) (digits : List ℕ) (left rest : ℕ) → 0 < left → left ≤ 20 → rest / 10 ≡ 0 → Spelling number digits left rest
-    → drop (left - 1) (set digits (left - 1) (digit (rest % 10))) ≡ decimal_of number
+    → text_from (left - 1) (set digits (left - 1) (digit (rest % 10))) ≡ decimal_of number
 unfolding digits_before
 first_digit number digits zero rest some room none s = absurd (omega arith)
 first_digit number digits (suc left) rest some room none s =
     let there : suc left - 1 ≡ left = omega arith in
     let one : rest % 10 ≡ rest = omega arith in
     let whole : digits_before (suc left) rest (drop (suc left) digits) ≡ digit rest ∷ drop (suc left) digits = rw (lt-ltb rest 10 (omega arith)) in
-    rw (there, one, drop-set digits left (digit rest) (omega arith), add-one) (sym whole ∙ s.1)
+    let all = from_length left (set digits left (digit rest)) (simp length-set s.0) in
+    rw (there, one) (all ∙ rw (drop-set digits left (digit rest) (omega arith), add-one) (sym whole ∙ s.1))
 
 -- and so do as many digits as there are places
-pub all_digits : (number : ℕ) (digits : List ℕ) (rest : ℕ) → Spelling number digits 0 rest → digits ≡ decimal_of number
+pub all_digits : (number : ℕ) (digits : List ℕ) (left rest : ℕ) → left ≤ 0 → Spelling number digits left rest → text_from 0 digits ≡ decimal_of number
 unfolding digits_before
-all_digits number digits rest s = s.1
+all_digits number digits zero rest none s = from_length 0 digits s.0 ∙ s.1
+all_digits number digits (suc left) rest none s = absurd (omega arith)
 
 -- the text of a negative number
 pub signed_negative : (z : ℤ) → SFits w64 z → lt_z (to_z w64 (of_z w64 z)) (pos 0) ≡ true → 45 ∷ decimal_of (nat_abs z) ≡ signed_of z

@@ -35,16 +35,17 @@ pub fn decimal(out: &mut [u8], at: usize, number: u64) -> usize
 {
     let mut digits = [0u8; DIGITS_MAX];
     let mut rest = number;
+    let mut first = 0;
     for left in (0..DIGITS_MAX).rev() {
         let last = rest % 10;
         digits[left] = ZERO + last as u8;
         rest /= 10;
         if rest == 0 {
-            return append(out, at, &digits[left..]);
+            first = left;
+            break;
         }
     }
-    // Not reached: there are places for all digits.
-    append(out, at, &digits)
+    append(out, at, &digits[first..])
 }
 
 // Appends the number in decimal, a minus sign before a negative one.

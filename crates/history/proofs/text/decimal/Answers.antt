@@ -1,7 +1,8 @@
-use Rattle.std.proofs.Common.{◌≡◌, refl, ◌∙◌, ◌+◌, ◌-◌, ◌%◌, arith, set, drop, length, length-set, length-drop}
-use lib.Seq.{take_all}
-use Rattle.history.proofs.NumberLaws.{next_digit, first_digit, all_digits}
+use Rattle.std.proofs.Common.{◌≡◌, refl, arith}
+use Rattle.history.specs.Numbers.{decimal_of}
+use Rattle.history.proofs.NumberLaws.{text_from, next_digit, first_digit, all_digits}
 use Rattle.history.proofs.AppendingLaws.{appends_same}
+use Rattle.history.proofs.text.decimal.Goals.{else-loop-left-test, then-loop-left-test+then-rest-eq0}
 use Rattle.history.proofs.text.decimal.Goals as goal
 
 pub loop-left-init : goal.loop-left-init
@@ -11,17 +12,22 @@ pub loop-left-preserved : goal.loop-left-preserved
 loop-left-preserved c =
     (next_digit c.args.number c.loop-left.digits c.loop-left.left c.loop-left.rest (omega arith) (omega arith) c.if-rest-eq0.false c.loop-left.invariant.0, c.loop-left.invariant.1)
 
-pub returns-then-rest-eq0 : goal.returns-then-rest-eq0
-returns-then-rest-eq0 c =
-    let at = c.loop-left.left - 1 in
-    let digits = set c.loop-left.digits at (48 + c.loop-left.rest % 10) in
-    let size : length digits ≡ 20 = simp length-set c.loop-left.invariant.0.0 in
-    let all = take_all (20 - at) (drop at digits) (simp length-drop (omega (arith, size))) in
-    let text = first_digit c.args.number c.loop-left.digits c.loop-left.left c.loop-left.rest (omega arith) (omega arith) c.if-rest-eq0.true c.loop-left.invariant.0 in
-    rw (← c.loop-left.invariant.1) (appends_same (all ∙ text) c.append.ensures)
+pub slice_bounds-append-count : goal.slice_bounds-append-count
+slice_bounds-append-count c =
+    elim c.loop-left-test.branch [
+      | else-loop-left-test w ↦ rw (w.first-is, c.loop-left.invariant.1) (omega arith)
+      | then-loop-left-test+then-rest-eq0 w ↦ rw w.first-is (omega arith)
+    ]
 
 pub returns : goal.returns
 returns c =
-    let last : c.loop-left.left ≡ 0 = omega arith in
-    let text = all_digits c.args.number c.loop-left.digits c.loop-left.rest (rw last at c.loop-left.invariant.0) in
-    rw (← c.loop-left.invariant.1) (appends_same text c.append-2.ensures)
+    let text : text_from c.loop-left-test.first c.loop-left-test.digits ≡ decimal_of c.args.number =
+    elim c.loop-left-test.branch [
+      | else-loop-left-test w ↦
+          rw (w.first-is, w.digits-is, c.loop-left.invariant.1)
+          (all_digits c.args.number c.loop-left.digits c.loop-left.left c.loop-left.rest w.loop-left-test.false c.loop-left.invariant.0)
+      | then-loop-left-test+then-rest-eq0 w ↦
+          rw (w.first-is, w.digits-is)
+          (first_digit c.args.number c.loop-left.digits c.loop-left.left c.loop-left.rest w.loop-left-test.true (omega arith) w.if-rest-eq0.true c.loop-left.invariant.0)
+    ] in
+    appends_same text c.append.ensures

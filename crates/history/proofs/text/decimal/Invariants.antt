@@ -4,4 +4,4 @@ use Rattle.history.proofs.NumberLaws.{Spelling}
 use Rattle.history.proofs.text.decimal.Given as goal
 
 abbrev pub invariant-loop-left : goal.invariant-loop-left
-invariant-loop-left l = Spelling l.number l.digits l.left l.rest × (l.out ≡ l.fn.out)
+invariant-loop-left l = Spelling l.number l.digits l.left l.rest × (l.first ≡ 0)

@@ -11,26 +11,25 @@ pub const TICK_TAG: u8 = 0x03;
 // How many bytes a field may have.
 pub const FIELD_MAX: usize = 4096;
 
-// What a field is by its head: a name or received bytes, of so many bytes, a tick, or broken.
-// No Option of three kinds: `head_of` in specs/ counts a broken head among four.
+// What a field is by its head: a name or received bytes, of so many bytes, or a tick.
 #[derive(Clone, Copy)]
 pub enum Head {
     Name(usize),
     Received(usize),
     Tick,
-    Broken,
 }
 
-// Judges a head. `listing` says that no field but names came before, so that a name may come.
-pub fn judge(tag: u8, high: u8, low: u8, listing: bool) -> Head
+// Judges a head; none where the field is broken. `listing` says that no field but names came before,
+// so that a name may come.
+pub fn judge(tag: u8, high: u8, low: u8, listing: bool) -> Option<Head>
     ensures { result ≡ head_of tag (pair_of high low) listing }
 {
     let size = usize::from(slices::pair(high, low));
     match tag {
-        _ if FIELD_MAX < size => Head::Broken,
-        board::NAME_TAG if listing => Head::Name(size),
-        RECEIVED_TAG => Head::Received(size),
-        TICK_TAG if size == 0 => Head::Tick,
-        _ => Head::Broken,
+        _ if FIELD_MAX < size => None,
+        board::NAME_TAG if listing => Some(Head::Name(size)),
+        RECEIVED_TAG => Some(Head::Received(size)),
+        TICK_TAG if size == 0 => Some(Head::Tick),
+        _ => None,
     }
 }

@@ -3,7 +3,7 @@ ghost use Rattle.std.specs.Prelude.{◌≡◌};
 ghost use Rattle.slices.specs.HighFirst.{pair_of};
 ghost use Rattle.history.specs.Fields.{head_of};
 
-// The tags of fields behind the names.
+// The tags of fields behind the names. Numbers, not an enum: a field may have any tag.
 pub const RECEIVED_TAG: u8 = 0x02;
 
 pub const TICK_TAG: u8 = 0x03;

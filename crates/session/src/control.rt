@@ -1,5 +1,5 @@
 // The control byte: the type of a frame and its two counters.
-ghost use Rattle.std.specs.Prelude.{◌≡◌};
+ghost use Rattle.std.specs.Prelude.{◌≡◌, ◌/◌};
 ghost use Rattle.session.specs.Control.{kind_of, control_byte, control_of};
 
 use crate::counters::{AFC, OFC};
@@ -18,11 +18,12 @@ pub enum Kind {
     Nack = 3,
 }
 
-impl From<u8> for Kind {
-    fn from(number: u8) -> Kind
-        ensures { result ≡ kind_of number }
+impl Kind {
+    // The type that a control byte says: its two highest bits are the type's number.
+    fn in_byte(byte: u8) -> Kind
+        ensures { result ≡ kind_of (byte / 0x40) }
     {
-        match number {
+        match byte / KIND_UNIT {
             0 => Kind::Reset,
             1 => Kind::ResetAck,
             2 => Kind::Ack,
@@ -56,7 +57,7 @@ pub(crate) fn control_byte(kind: Kind, ofc: OFC, afc: AFC) -> u8
 pub(crate) fn read_control(byte: u8) -> Control
     ensures { result ≡ control_of byte }
 {
-    let kind = Kind::from(byte / KIND_UNIT);
+    let kind = Kind::in_byte(byte);
     let number = AFC(byte / COUNTER_UNIT % COUNTER_UNIT);
     let acknowledged = OFC(byte % COUNTER_UNIT);
     Control {

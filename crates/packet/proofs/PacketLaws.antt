@@ -7,9 +7,9 @@ use Prim.Native.Nat.{ℕ, ◌≤◌, ◌<◌}
 use lib.Dec.{leb, eqb}
 use lib.ListN.{length, get_or, drop}
 use borrow.Author.Tests.{le-leb, lt-leb, leb-true, ne_eqb}
-use Rattle.std.specs.Prelude.{◌≢◌, None, Result, Ok, Err, MatchResult, IsOkAnd}
+use Rattle.std.specs.Prelude.{◌≢◌, None, Result, Ok, Err, MatchOption, MatchResult, IsOkAnd}
 use Rattle.std.specs.Option.{ok_or}
-use Rattle.std.specs.Result.{result_map_both}
+use Rattle.std.specs.Result.{result_map_both, result_ok}
 use Rattle.refusals.specs.Numbers.{no_data_packet, bad_items}
 use Rattle.slices.proofs.Impossible.{impossible}
 use Rattle.slices.specs.HighFirst.{pair_of}
@@ -17,7 +17,7 @@ use Rattle.slices.proofs.TestLaws.{both}
 use Rattle.packet.specs.Items.{Item, items_of, count_of}
 use Rattle.refusals.specs.declared.Refusal.{Refusal}
 use Rattle.packet.specs.Packet.{Packet, Judged, packet, refused, head_length, is_data, with_items, packet_of, judged_items}
-use Rattle.packet.specs.Answers.{reading_of, find_in, behind_in, look_at, look_by, look_of}
+use Rattle.packet.specs.Answers.{Found, reading_of, find_in, behind_in, look_at, look_by, look_of}
 use Rattle.packet.specs.ReaderSteps.{tally_of}
 use Rattle.packet.specs.declared.reading.Look.{Look}
 use Rattle.packet.specs.declared.reading.Head.{Head}
@@ -87,6 +87,12 @@ pub heads_in : (looked : Result Look Refusal) (answer : Result Head Refusal)
 heads_in (Ok look) (Ok head) e = rw e
 heads_in (Ok look) (Err r) e = absurd e
 heads_in (Err r) answer e = e
+
+-- one thing that a look may have found
+pub found_in : (f : Look → Found) (looked : Result Look Refusal) (answer : Found)
+    → MatchOption (result_ok looked) (answer ≡ None) (λ look. answer ≡ f look) → answer ≡ seen f None looked
+found_in f (Ok look) answer e = e
+found_in f (Err r) answer e = e
 
 -- what each look says of the packet's items is so of a refused packet's too, which are none
 pub items_seen : {A : Type 0} (kind : ℕ) (f : Look → A) (of : List Item → A) (judged : Judged) → ((p : Packet) → f (look_at kind p) ≡ of p.items)

@@ -70,14 +70,14 @@ pub fn count(s: &[u8], kind: u8) -> usize
 pub fn find(s: &[u8], kind: u8) -> Option<Item>
     ensures { result ≡ find_in head_length kind (packet_items s.now) }
 {
-    look_for(s, kind).map_or(None, |look| look.first)
+    look_for(s, kind).ok().and_then(|look| look.first)
 }
 
 // The item right behind the first item of the kind in a packet; in a refused one nothing is found.
 pub fn behind(s: &[u8], kind: u8) -> Option<Item>
     ensures { result ≡ behind_in head_length kind (packet_items s.now) }
 {
-    look_for(s, kind).map_or(None, |look| look.behind)
+    look_for(s, kind).ok().and_then(|look| look.behind)
 }
 
 // The value of the first item of the kind in a packet; empty where there is none.

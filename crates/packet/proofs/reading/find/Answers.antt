@@ -1,13 +1,12 @@
 -- `packet::reading::find` meets its contract: it finds what a look finds.
 use Rattle.std.proofs.Common.{rules, ◌∙◌}
-use Rattle.std.specs.Prelude.{None}
 use Rattle.packet.specs.Packet.{packet_of, packet_items}
 use Rattle.packet.specs.declared.reading.Look.{Look}
-use Rattle.packet.proofs.PacketLaws.{seen_in, first_seen}
+use Rattle.packet.proofs.PacketLaws.{found_in, first_seen}
 use Rattle.packet.proofs.reading.find.Goals as goal
 
 pub returns : goal.returns
 unfolding packet_items
 returns c =
-    seen_in (λ (look : Look). look.first) None c.look_for.result c.map_or.result (search rules)
+    found_in (λ (look : Look). look.first) c.look_for.result c.and_then.result (search rules)
     ∙ rw c.look_for.ensures (first_seen c.args.kind (packet_of c.args.s.now))

@@ -3,6 +3,8 @@ ghost use Rattle.std.specs.Prelude.{◌≡◌};
 ghost use Rattle.slices.specs.FixedBytes.{fixed_of, shown};
 
 // The first `length` of the bytes; the others are not shown.
+// No invariant that the length is in the room: callers' contracts speak of lengths that pass it too, as
+// rows::fresh_row does for a name of any length, and cutter::cut for a cutter in any state.
 #[derive(Clone, Copy)]
 pub struct FixedBytes<const N: usize> {
     pub length: usize,

@@ -7,7 +7,7 @@ use crate::{CHECK_START, CONTENT_MIN, NO_PLACE};
 use refusals::Refusal;
 
 // A frame that was read. `kind` is what the papers call its type; the payload's `length` bytes stand in
-// the content from its third byte on.
+// the content from its third byte on. A length, not a slice: the bytes stand in the caller's buffer.
 #[derive(Clone, Copy)]
 pub struct Frame {
     pub kind: u8,

@@ -17,7 +17,8 @@ pub const ESCAPED_ESCAPE: u8 = 0x5d;
 // How much less they are than what they stand for.
 pub const ESCAPED_DIFFERENCE: u8 = 0x20;
 
-// What the papers call a frame's type is `kind` in the code: data, or an acknowledgement.
+// What the papers call a frame's type is `kind` in the code: data, or an acknowledgement. Numbers, not
+// an enum: the writer takes any type, and the reader of a whole frame gives any.
 pub const DATA: u8 = 0x01;
 
 pub const ACKNOWLEDGEMENT: u8 = 0x02;

@@ -13,7 +13,8 @@ use crate::stuffing::unstuff;
 use crate::{FLAG, FRAME_MIN, HEADER_SIZE, PAYLOAD_MAX};
 use refusals::Refusal;
 
-// A frame that was read. The payload's `length` bytes stand at the start of the output.
+// A frame that was read. The payload's `length` bytes stand at the start of the output. A length, not a
+// slice: the bytes stand in the caller's buffer.
 #[derive(Clone, Copy)]
 pub struct Frame {
     pub control: u8,

@@ -17,7 +17,7 @@ pub use reading::{
 };
 pub use requests::{fetched, file_request, property_get, stop};
 
-// A data packet's first byte.
+// A data packet's first byte. A number, not an enum: a packet may begin with any byte.
 const DATA: u8 = 1;
 
 // The bytes before a packet's items: 01, opcode, request id.

@@ -23,6 +23,7 @@ pub fn watch_list(fields: &[u8]) -> Watched
 {
     let mut board = fresh();
     let mut rest = fields;
+    // What is left, not a `for`: each field says by its length where the next one begins.
     while !rest.is_empty() {
         let Some((name, behind)) = read_field(rest) else {
             return refused(fresh());

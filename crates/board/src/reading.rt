@@ -14,7 +14,7 @@ use refusals::Refusal;
 use rows::{Board, find, update};
 use value::read_value;
 
-// The opcode that the board reads.
+// The opcode that the board reads. A number, not an enum: a packet may have any opcode.
 const UPDATE: u8 = 0x03;
 
 // What became of a packet that was read: an update of the row at a place or an end mark, each with the
@@ -91,7 +91,8 @@ fn judge_items(packet: &[u8], names: Look) -> Result<Task, Refusal>
     Err(Refusal::BadName)
 }
 
-// How many EOF items a packet has.
+// How many EOF items a packet has. The look itself, not `packet::count`: the looks at a packet stand in
+// the board's own code, so that a test counts there how often its items are walked.
 fn count_ends(packet: &[u8]) -> usize
     ensures { result ≡ count_of eof_kind (packet_items packet.now) }
 {

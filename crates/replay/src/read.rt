@@ -34,7 +34,8 @@ pub(crate) fn head(input: &mut impl Read, listing: bool) -> Result<Option<Head>,
     }
     let mut size = [0u8; LENGTH_BYTES];
     fill(input, &mut size)?;
-    Ok(Some(history::fields::judge(tag[0], size[0], size[1], listing)))
+    let head = history::fields::judge(tag[0], size[0], size[1], listing);
+    Ok(Some(head.ok_or(Fault::Broken)?))
 }
 
 // Plays the field of a head. A field that is cut is broken as a whole.
@@ -52,7 +53,6 @@ pub(crate) fn play(
             *display = display::tick(*display);
             Ok(())
         }
-        Head::Broken => Err(Fault::Broken),
     }
 }
 

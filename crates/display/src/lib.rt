@@ -23,6 +23,8 @@ pub struct Display {
 // What a piece brought: no frame; a refusal and its place; the sequence of an
 // acknowledgement; the length of the reply to a data frame that came again; or the lengths of a new
 // one's reply and payload, and what the board read in it.
+// One enum, not a Result: whoever calls tells the five cases apart in one match, and a refusal is
+// one of them.
 #[derive(Clone, Copy)]
 pub enum Answer {
     Nothing,
@@ -71,46 +73,43 @@ pub fn receive(display: Display, piece: &[u8], reply: &mut [u8], packet: &mut [u
     ensures { DisplaysAs (receive_piece display piece.now (length reply.old) (length packet.old)) reply.old packet.old result reply.new packet.new }
 {
     let received = receiver::receive(display.link, piece, reply, packet);
-    let taken = received.taken;
-    let behind = Display {
-        link: received.link,
-        ..display
-    };
+    let sender = display.sender;
+    let board = display.board;
     match received.answer {
         receiver::Answer::New {
             reply: replied,
             packet: length,
         } => {
-            let reading = board::read(behind.board, &packet[..length]);
-            hand_up(behind, taken, replied, length, reading)
+            let reading = board::read(board, &packet[..length]);
+            hand_up(received, sender, replied, length, reading)
         }
-        receiver::Answer::Nothing => keep(behind, taken, Answer::Nothing),
-        receiver::Answer::Refused(fault) => keep(behind, taken, Answer::Refused(fault)),
+        receiver::Answer::Nothing => keep(received, sender, board, Answer::Nothing),
+        receiver::Answer::Refused(fault) => keep(received, sender, board, Answer::Refused(fault)),
         receiver::Answer::Heard(sequence) => {
-            let sender = sender::acknowledge(behind.sender, sequence);
-            keep(Display { sender, ..behind }, taken, Answer::Heard(sequence))
+            let behind = sender::acknowledge(sender, sequence);
+            keep(received, behind, board, Answer::Heard(sequence))
         }
-        receiver::Answer::Again(length) => keep(behind, taken, Answer::Again(length)),
+        receiver::Answer::Again(length) => keep(received, sender, board, Answer::Again(length)),
     }
 }
 
 // A new packet, with what the board read in it.
 fn hand_up(
-    display: Display,
-    taken: usize,
+    received: receiver::Received,
+    sender: Sender,
     reply: usize,
     packet: usize,
     reading: board::Reading,
 ) -> Received
-    ensures { result ≡ record { display = record { link = count_reading display.link reading.answer; sender = display.sender; board = reading.board }; taken = taken; answer = Answer.New reply packet reading.answer } }
+    ensures { result ≡ take_reading received sender reply packet reading }
 {
     Received {
         display: Display {
-            link: count_reading(display.link, reading.answer),
+            link: count_reading(received.link, reading.answer),
+            sender,
             board: reading.board,
-            ..display
         },
-        taken,
+        taken: received.taken,
         answer: Answer::New {
             reply,
             packet,
@@ -130,12 +129,16 @@ fn count_reading(link: Link, reading: Result<board::Done, Refusal>) -> Link
 }
 
 // A call that brought no new packet.
-fn keep(display: Display, taken: usize, answer: Answer) -> Received
-    ensures { result ≡ record { display = display; taken = taken; answer = answer } }
+fn keep(received: receiver::Received, sender: Sender, board: Board, answer: Answer) -> Received
+    ensures { result ≡ keep_board received sender board answer }
 {
     Received {
-        display,
-        taken,
+        display: Display {
+            link: received.link,
+            sender,
+            board,
+        },
+        taken: received.taken,
         answer,
     }
 }

@@ -27,7 +27,7 @@ pub returns-in-Refused : goal.returns-in-Refused
 returns-in-Refused c = kept c.args.display c.args.piece.now c.args.reply.now c.args.packet.now _ _ _ c.receive-received.ensures _ _ _ _ c.in-Refused.is refl c.keep-in-Refused.ensures
 
 pub returns-in-Heard : goal.returns-in-Heard
-returns-in-Heard c = kept c.args.display c.args.piece.now c.args.reply.now c.args.packet.now _ _ _ c.receive-received.ensures _ _ _ _ c.in-Heard.is refl (rw c.acknowledge-sender.ensures at c.keep-in-Heard.ensures)
+returns-in-Heard c = kept c.args.display c.args.piece.now c.args.reply.now c.args.packet.now _ _ _ c.receive-received.ensures _ _ _ _ c.in-Heard.is refl (rw c.acknowledge-behind.ensures at c.keep-in-Heard.ensures)
 
 pub returns-in-Again : goal.returns-in-Again
 returns-in-Again c = kept c.args.display c.args.piece.now c.args.reply.now c.args.packet.now _ _ _ c.receive-received.ensures _ _ _ _ c.in-Again.is refl c.keep-in-Again.ensures

@@ -1,6 +1,6 @@
 -- 02, C-13: a sender holding one frame.
-use Rattle.std.specs.Prelude.{ℕ, Option, Some, None, suc, cond, List, eqb, length, take, replicate}
-use Rattle.slices.specs.Put.{put_at}
+use Rattle.std.specs.Prelude.{ℕ, Option, Some, None, suc, cond, List, [], eqb}
+use Rattle.slices.specs.FixedBytes.{fixed_of, shown}
 use Rattle.slices.specs.declared.fixed_bytes.FixedBytes.{FixedBytes}
 use Rattle.frame.specs.Content.{payload_max}
 use Rattle.sender.specs.declared.state.Held.{Held}
@@ -15,13 +15,13 @@ next_sequence sequence = cond (eqb sequence greatest_sequence) 1 (suc sequence)
 
 -- the payload of the held frame; where none is held it is empty, and its room holds zeros
 unfoldable pub payload_of : List ℕ → FixedBytes payload_max
-payload_of payload = record { length = length payload; bytes = put_at (replicate payload_max 0) 0 payload }
+payload_of payload = fixed_of payload_max payload
 
 abbrev pub no_payload : FixedBytes payload_max
-no_payload = record { length = 0; bytes = replicate payload_max 0 }
+no_payload = fixed_of payload_max []
 
 abbrev pub kept : FixedBytes payload_max → List ℕ
-kept payload = take payload.length payload.bytes
+kept payload = shown payload
 
 -- at first nothing is held, and the next frame has sequence 0
 unfoldable pub fresh_sender : Sender

@@ -17,6 +17,8 @@ pub struct Counts {
 
 // What is counted: a data frame that is new or came again, an acknowledgement that was heard, a
 // packet that was not read, a frame that was refused with a number.
+// A number, not a Refusal: `count` takes any number, and its contract says what it makes of one that
+// no refusal of a frame has.
 #[derive(Clone, Copy)]
 pub enum Event {
     New,

@@ -50,5 +50,6 @@ fn repeated(last: Option<u8>, sequence: u8) -> bool
 fn acknowledge(sequence: u8, reply: &mut [u8; REPLY_ROOM]) -> usize
     ensures { AcknowledgesAs sequence reply.old result reply.new }
 {
+    // No refusal is lost: nine bytes are room for every acknowledgement, so the writer refuses none.
     write_frame(ACKNOWLEDGEMENT, sequence, b"", reply).unwrap_or(0)
 }

@@ -16,6 +16,8 @@ pub const REPLY_ROOM: usize = 9;
 
 // The link's state between two pieces: the content since the last flag is the first bytes of
 // `content`, as many as the reader says, and `last` is the sequence of the last data frame.
+// An array, not FixedBytes: each byte gives a new reader, its length with phase and place, while the
+// array is lent and stays where it is.
 #[derive(Clone, Copy)]
 pub struct Link {
     pub content: [u8; CONTENT_MAX],
@@ -27,6 +29,8 @@ pub struct Link {
 // What a call brought: no frame; a refusal with its place; the sequence of an acknowledgement; the
 // length of the reply to a data frame that came again; or the lengths of a new one's reply and
 // payload.
+// One enum, not a Result: whoever calls tells the five cases apart in one match, and a refusal is
+// one of them.
 #[derive(Clone, Copy)]
 pub enum Answer {
     Nothing,

@@ -26,6 +26,8 @@ pub struct Sender {
 
 // What an event gave: nothing; a refusal; a frame sent for the first time or again, with its
 // length in the output; or the report that a frame was dropped.
+// One enum, not a Result: whoever calls tells the five cases apart in one match, and a refusal is
+// one of them.
 #[derive(Clone, Copy)]
 pub enum Answer {
     Nothing,

@@ -5,7 +5,7 @@ use Prim.Native.Nat.{ℕ, zero, suc, ◌≤◌}
 use native.Mathlib.Omega.{arith}
 use lib.ListN.{length, take, replicate}
 use Rattle.std.specs.Prelude.{Result, Ok, Err}
-use Rattle.refusals.specs.declared.Refusal as refusals
+use Rattle.refusals.specs.declared.Refusal.{Refusal}
 use Rattle.slices.specs.Put.{put_at}
 use Rattle.ash.specs.Stuffing.{payload_max, stuff}
 use Rattle.ash.specs.Writing.{frame_of}
@@ -19,7 +19,7 @@ use Rattle.cutter.specs.Cutting.{wake_byte, between, goes_on, step_of, frames_fr
 use Rattle.cutter.specs.History.{Offer, Left, line_taken, all_frames}
 use Rattle.cutter.specs.declared.state.Cutter.{Cutter}
 use Rattle.cutter.proofs.TurnLaws.{step_other}
-use Rattle.cutter.proofs.Handed.{Refusal}
+use Rattle.cutter.proofs.Handed.{ReaderRefuses}
 use Rattle.cutter.proofs.Chain.{Begins, Chain}
 use Rattle.cutter.proofs.EveryList.{every_list}
 use Rattle.cutter.proofs.GoodFrames.{unfinished, good_frame, good_frame_within}
@@ -61,7 +61,7 @@ module _ {cutter end : Cutter} {os : List Offer} {left : List Left} (b : Begins 
       rw f.is (good_frame_handed_on control payload f.short)
 
 -- THEOREM. A frame that is handed on and not whole is refused by each call of `read_frame`, which leaves its output as it was.
-pub refused_by_the_reader : (frame out : List ℕ) (answer : Result Frame refusals.Refusal) (out₁ : List ℕ) → (r : Refusal (length out) frame) → Reads frame out answer out₁
+pub refused_by_the_reader : (frame out : List ℕ) (answer : Result Frame Refusal) (out₁ : List ℕ) → (r : ReaderRefuses (length out) frame) → Reads frame out answer out₁
     → (answer ≡ Err r.reason) × (out₁ ≡ out)
 refused_by_the_reader frame out answer out₁ r call =
     let did = was_read call in

@@ -7,7 +7,7 @@ use Prim.Native.Nat.{ℕ, ◌≤◌, ◌<◌}
 use native.Mathlib.Omega.{arith}
 use lib.ListN.{length, get_or, get_or-append}
 use Rattle.std.specs.Prelude.{Option, Some}
-use Rattle.refusals.specs.declared.Refusal as refusals
+use Rattle.refusals.specs.declared.Refusal.{Refusal}
 use Rattle.ash.specs.Header.{frame_min}
 use Rattle.ash.specs.Size.{frame_size}
 use Rattle.ash.specs.Reading as reading
@@ -30,29 +30,29 @@ pub record Whole (frame : List ℕ) : Type 0 where
   pub flag : flag_first frame ≡ true
   pub size : size_in frame ≡ Some (length frame)
 
--- the reader's refusal
-pub record Refusal (room : ℕ) (frame : List ℕ) : Type 0 where
-  pub reason : refusals.Refusal
+-- the reader refuses it
+pub record ReaderRefuses (room : ℕ) (frame : List ℕ) : Type 0 where
+  pub reason : Refusal
   pub is : read_frame room frame ≡ reading.refused reason
 
 -- what is known of each frame that is handed on
 pub record Handed (frame : List ℕ) : Type 0 where
   pub some : 1 ≤ length frame
   pub most : length frame ≤ frame_max
-  pub sort : Whole frame ⊎ ((room : ℕ) → Refusal room frame)
+  pub sort : Whole frame ⊎ ((room : ℕ) → ReaderRefuses room frame)
 
 -- what the reader cannot take it refuses
-refused_unless : (room : ℕ) (bytes : List ℕ) → ((control : ℕ) (p : List ℕ) → read_frame room bytes ≡ reading.frame control p → ⊥) → Refusal room bytes
+refused_unless : (room : ℕ) (bytes : List ℕ) → ((control : ℕ) (p : List ℕ) → read_frame room bytes ≡ reading.frame control p → ⊥) → ReaderRefuses room bytes
 refused_unless room bytes untaken = by_result (read_frame room bytes) refl
   where
-    by_result : (found : Read) → read_frame room bytes ≡ found → Refusal room bytes
+    by_result : (found : Read) → read_frame room bytes ≡ found → ReaderRefuses room bytes
     by_result (reading.frame control p) e = absurd (untaken control p e)
     by_result (reading.refused n) e = record { reason = n; is = e }
 
 -- fewer than seven bytes, a bad header, and fewer bytes than the header says
-pub short_refused : (bytes : List ℕ) → length bytes < frame_min → (room : ℕ) → Refusal room bytes
+pub short_refused : (bytes : List ℕ) → length bytes < frame_min → (room : ℕ) → ReaderRefuses room bytes
 short_refused bytes few room = refused_unless room bytes (λ control p e. omega (arith, (opened room bytes control p e).long))
 
-pub other_size : (bytes : List ℕ) (size : Option ℕ) → size_in bytes ≡ size → (size ≡ Some (length bytes) → ⊥) → (room : ℕ) → Refusal room bytes
+pub other_size : (bytes : List ℕ) (size : Option ℕ) → size_in bytes ≡ size → (size ≡ Some (length bytes) → ⊥) → (room : ℕ) → ReaderRefuses room bytes
 other_size bytes size is other room =
     refused_unless room bytes (λ control p e. other (sym is ∙ taken_size room bytes control p e))

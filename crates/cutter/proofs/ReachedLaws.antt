@@ -16,7 +16,7 @@ use Rattle.ash.specs.Reading.{flag_first}
 use Rattle.ash.proofs.SizeLaws.{size_bounds}
 use Rattle.cutter.specs.Cutting.{Place, between, inside, passing, Step, goes_on, hands_on, begun, sized_step, joined_step}
 use Rattle.cutter.specs.Calls.{held_max}
-use Rattle.cutter.proofs.Handed.{size_in, size_append, Refusal, Handed, short_refused, other_size}
+use Rattle.cutter.proofs.Handed.{size_in, size_append, ReaderRefuses, Handed, short_refused, other_size}
 
 -- and of a frame under way: once its header has come, it is shorter than that says
 pub record Unfinished (held : List ℕ) : Type 0 where
@@ -55,7 +55,7 @@ cut_short held u =
     flagged [] e = impossible cc
     flagged (b ∷ bs) e = omega arith
 
-    by_length : (t : Bool) → ltb (length held) 4 ≡ t → (room : ℕ) → Refusal room held
+    by_length : (t : Bool) → ltb (length held) 4 ≡ t → (room : ℕ) → ReaderRefuses room held
     by_length true e = short_refused held (omega (arith, ltb-true (length held) 4 e))
     by_length false e =
         let more = u.unfinished (ltb-false (length held) 4 e) in

@@ -49,9 +49,9 @@ flag_closes held (b ∷ bs) n e h = by_byte (eqb b flag_byte) e (flag_closes (he
 
 -- a run that is not taken is a refused frame
 record IsRefused (run : List ℕ) : Type 0 where
-  number : Refusal
+  refusal : Refusal
   place : ℕ
-  is : frame_of run ≡ frames.refused number place
+  is : frame_of run ≡ frames.refused refusal place
 
 not_taken : (run : List ℕ) → (IsTaken (read_run run) → ⊥) → IsRefused run
 unfolding frame_of
@@ -59,13 +59,13 @@ not_taken run wrong = cases (read_run run) refl wrong
   where
     cases : (found : frame.Read) → read_run run ≡ found → (IsTaken found → ⊥) → IsRefused run
     cases (frame.frame kind sequence payload) e wrong = absurd (wrong tt)
-    cases (frame.refused n place) e wrong = record { number = n; place = place; is = ap frames.by_type e }
+    cases (frame.refused n place) e wrong = record { refusal = n; place = place; is = ap frames.by_type e }
 
 -- the answer is a refusal
 pub record RefusedAs (answer : Answer) : Type 0 where
-  pub number : Refusal
+  pub refusal : Refusal
   pub place : ℕ
-  pub is : answer ≡ Refused (fault_at number place)
+  pub is : answer ≡ Refused (fault_at refusal place)
 
 module _ (names : List (List ℕ)) (cs : List Call) (left : List Left) (end : Display) (a : Agreeing names cs left end)
     (behind_a_flag : (after (start names) cs).line.run ≡ some []) (sent arrived : List ℕ) (damage : Damaged sent arrived)
@@ -83,8 +83,8 @@ module _ (names : List (List ℕ)) (cs : List Call) (left : List Left) (end : Di
   closes =
       ap (λ (run : Option (List ℕ)). (taken run string 0).frame) behind_a_flag ∙ flag_closes [] arrived 0 no_flag (damaged_some sent arrived damage)
 
-  refusal : IsRefused arrived
-  refusal = not_taken arrived (damaged_run sent arrived damage good)
+  refused : IsRefused arrived
+  refused = not_taken arrived (damaged_run sent arrived damage good)
 
   module _ (reply packet : List ℕ) (r : reply_room ≤ length reply) (p : packet_room ≤ length packet) (count : ℕ) (answer : Answer) (reply₁ packet₁ : List ℕ)
       (end₁ : Display) (next : Chain end (piece string reply packet ∷ []) (took count answer reply₁ packet₁ ∷ []) end₁) where
@@ -96,7 +96,7 @@ module _ (names : List (List ℕ)) (cs : List Call) (left : List Left) (end : Di
     is_refused : RefusedAs answer
     is_refused =
         let effect : Option (List ℕ) → Answer = λ frame. as_answer names (effect_of (with_run l t.run) frame).answer in
-        record { number = refusal.number; place = refusal.place; is = said ∙ ap effect closes ∙ rw refusal.is }
+        record { refusal = refused.refusal; place = refused.place; is = said ∙ ap effect closes ∙ rw refused.is }
 
 -- THEOREM. After every list of calls, behind a flag: a piece with room that is the run of a good frame, so damaged, and the closing flag is answered by
 -- a refusal. (What it leaves as it was: ledger/proofs/RefusedFrames.)

@@ -13,7 +13,7 @@ use borrow.Author.Tests.{eqb-true, ltb-true, ltb-false}
 use Rattle.slices.proofs.Impossible.{impossible}
 use Rattle.slices.specs.Put.{put_at}
 use Rattle.refusals.specs.Numbers.{short_output, number_of}
-use Rattle.refusals.specs.declared.Refusal as refusals
+use Rattle.refusals.specs.declared.Refusal.{Refusal}
 use Rattle.sender.specs.Events.{Given}
 use Rattle.sender.specs.declared.state.Answer as sender_answer
 use Rattle.sender.specs.declared.state.Answer.TheVariants as sender_says
@@ -50,25 +50,25 @@ pub record ChangesNothing (c : Call) (left : Left) (before behind : Display) : T
   pub no_event : events_of c left ≡ []
 
 -- why a send or a timeout was refused
-record Refusal (answer : sender_answer.Answer) : Type 0 where
-  number : refusals.Refusal
-  is : answer ≡ sender_says.Refused number
+record IsRefused (answer : sender_answer.Answer) : Type 0 where
+  refusal : Refusal
+  is : answer ≡ sender_says.Refused refusal
 
-refusal_of : (answer : sender_answer.Answer) → refused_sending answer ≡ true → Refusal answer
+refusal_of : (answer : sender_answer.Answer) → refused_sending answer ≡ true → IsRefused answer
 refusal_of sender_says.Nothing e = impossible cc
-refusal_of (sender_says.Refused n) e = record { number = n; is = refl }
+refusal_of (sender_says.Refused n) e = record { refusal = n; is = refl }
 refusal_of (sender_says.Sent sequence size) e = impossible cc
 refusal_of (sender_says.Repeated sequence size) e = impossible cc
 refusal_of (sender_says.Dropped sequence) e = impossible cc
 
 -- what the sender refuses leaves the display and the output as they were
 kept_by : (d : Display) (given : Given) (output : List ℕ) (result : Outgoing) (output₁ : List ℕ) → SendsAs d given output result output₁
-    → ((n : refusals.Refusal) → given.outcome.answer ≡ sender_says.Refused n → Keeps d.sender given) → refused_sending result.answer ≡ true
+    → ((n : Refusal) → given.outcome.answer ≡ sender_says.Refused n → Keeps d.sender given) → refused_sending result.answer ≡ true
     → (result.display ≡ d) × (output₁ ≡ output)
 kept_by d given output result output₁ does keeps e =
-    let refusal = refusal_of result.answer e in
+    let refused = refusal_of result.answer e in
     let told = ap (λ (r : Outgoing). r.answer) does.answers in
-    let kept = keeps refusal.number (sym told ∙ refusal.is) in
+    let kept = keeps refused.refusal (sym told ∙ refused.is) in
     (ap (λ (r : Outgoing). r.display) does.answers ∙ ap (with_sender d) kept.sender, does.sends ∙ ap (put_at output 0) kept.output)
 
 -- THEOREM. A refused send leaves the display and the output as they were, whatever the display, and is no part of the history.

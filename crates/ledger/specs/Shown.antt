@@ -1,4 +1,4 @@
--- How the code says what the ledger says: each count modulo 65,536, the rows as they are shown, the answers as enums.
+-- How the code says what the ledger says: each count modulo 65,536, the rows as they are shown, the answers as the code has them.
 use Rattle.std.specs.Prelude as code
 use Rattle.std.specs.Prelude.{ℕ, ◌%◌, List, [], map, length, get_or}
 use Rattle.std.proofs.Math.Option.{Option, some, none}

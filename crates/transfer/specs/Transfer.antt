@@ -70,7 +70,7 @@ unfoldable pub goes_on : Transfer → ℕ → Bool
 goes_on transfer offset = not transfer.complete && eqb offset transfer.next
 
 -- what a packet is to a transfer: accepted, with the offset of its bytes and what the transfer's next offset, length and end are then, or
--- refused by a number
+-- refused, and by which refusal
 pub data Verdict : Type 0 where
   accepted : (offset next : ℕ) (declared : Declared) (last : Bool) → Verdict
   refused : Refusal → Verdict
@@ -94,7 +94,7 @@ judge_form transfer room items (good offset declared last) =
 
 -- 01, Refusal numbers: for packets 9, 10, 11, then those for fragments
 unfoldable pub verdict_of : Transfer → ℕ → Judged → Verdict
-verdict_of transfer room (judged.refused number) = refused number
+verdict_of transfer room (judged.refused refusal) = refused refusal
 verdict_of transfer room (judged.packet p) =
     cond (eqb p.opcode fragment_opcode) (judge_form transfer room p.items (form_of p.items)) (refused other_opcode)
 
@@ -110,13 +110,13 @@ advanced transfer next declared last =
 
 -- what becomes of the transfer, and the answer
 unfoldable pub outcome_by : Transfer → Verdict → Outcome
-outcome_by transfer (refused number) = refused_with transfer number
+outcome_by transfer (refused refusal) = refused_with transfer refusal
 outcome_by transfer (accepted offset next declared last) =
     record { transfer = advanced transfer next declared last; answer = Ok tt }
 
 -- 01, File fragments: an accepted fragment writes its bytes at its offset and no others
 unfoldable pub file_by : List ℕ → List ℕ → Verdict → List ℕ
-file_by file bytes (refused number) = file
+file_by file bytes (refused refusal) = file
 file_by file bytes (accepted offset next declared last) = put_at file offset bytes
 
 -- what a packet is to a transfer and a lent file buffer

@@ -1,12 +1,15 @@
--- The parts of so many bytes each that a string has, one after the other.
-use mathlib.Core.Path.{◌≡◌, refl, sym, ap, ◌∙◌}
+-- The parts of so many bytes each that a string has, one after the other; and some of its bytes, from a place on, as a number.
+use mathlib.Core.Path.{◌≡◌, refl, sym, ap, ap₂, ◌∙◌}
 use mathlib.Core.List.{List, [], ◌∷◌}
 use Prim.Native.Nat.{ℕ, zero, suc, ◌+◌, ◌*◌, ◌≤◌, ◌<◌}
 use native.Mathlib.Omega.{arith}
 use lib.ListN.{length, take, drop, get_or, length-drop}
-use lib.Seq.{drop-drop, length-take-le}
+use lib.Seq.{drop-drop, get_or-drop, get_or-take, length-take-le}
 use Rattle.std.specs.Simd.{first_chunks}
 use Rattle.std.proofs.lemmas.Slice.Eq.{text_from_reads}
+use Rattle.slices.specs.Bits.{Bytes}
+use Rattle.slices.specs.HighFirst.{word_of, high_first}
+use Rattle.slices.proofs.HighFirstLaws.{bytes_back}
 use Rattle.crc.specs.Crc.{crc_of}
 use Rattle.crc.proofs.CrcLaws.{part_added}
 
@@ -39,3 +42,17 @@ pair_read count s i r next h fits e = part_read 2 count s i r next h (e ∙ ap (
 
     spelled : get_or (first_chunks 2 count s) i [] ≡ get_or (get_or (first_chunks 2 count s) i []) 0 0 ∷ get_or (get_or (first_chunks 2 count s) i []) 1 0 ∷ []
     spelled = text_from_reads pair _ size (refl, (refl, tt))
+
+-- the number of some bytes, from a place on, has them as its bytes
+module _ (s : List ℕ) (i : ℕ) where
+  pub read_bytes : (more number : ℕ) → Bytes s → i + suc more ≤ length s → number ≡ word_of (take (suc more) (drop i s))
+      → high_first (suc more) number ≡ take (suc more) (drop i s)
+  read_bytes more number small h e =
+      ap₂ high_first (sym size) e
+      ∙ bytes_back part (λ k below. rw (get_or-take (suc more) (drop i s) k 0 (omega (arith, size)), get_or-drop i s k 0) (small (i + k))) (omega (arith, size))
+    where
+      part : List ℕ
+      part = take (suc more) (drop i s)
+
+      size : length (take (suc more) (drop i s)) ≡ suc more
+      size = length-take-le (suc more) (drop i s) (rw length-drop (omega arith))

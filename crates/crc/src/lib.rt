@@ -31,8 +31,8 @@ fn check_by_two(start: u16, bytes: &[u8]) -> u16
 {
     let mut register = start;
     let (pairs, rest) = bytes.as_chunks::<2>();
-    for pair in pairs {
-        register = check_pair(register, pair[0], pair[1]);
+    for [first, second] in pairs {
+        register = check_pair(register, *first, *second);
     }
     if rest.is_empty() {
         return register;

@@ -54,9 +54,9 @@ fn add_byte(table: &[u16; 256], register: u16, byte: u8) -> u16
     requires { Remainders table.now }
     ensures { result ≡ add_byte register byte }
 {
-    let high = (register / 0x100) as u8;
+    let [high, low] = register.to_be_bytes();
     let fallen = entry(table, high ^ byte);
-    fallen ^ register % 0x100 * 0x100
+    fallen ^ u16::from_be_bytes([low, 0])
 }
 
 // The table's entry for a byte.

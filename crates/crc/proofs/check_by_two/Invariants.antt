@@ -6,5 +6,5 @@ use lib.ListN.{drop}
 use Rattle.crc.specs.Crc.{crc_of}
 use Rattle.crc.proofs.check_by_two.Given as goal
 
-abbrev pub invariant-loop-pair : goal.invariant-loop-pair
-invariant-loop-pair l = crc_of l.register (drop (l.pair-index * 2) l.bytes) ≡ crc_of l.start l.bytes
+abbrev pub invariant-loop-first : goal.invariant-loop-first
+invariant-loop-first l = crc_of l.register (drop (l.first-index * 2) l.bytes) ≡ crc_of l.start l.bytes

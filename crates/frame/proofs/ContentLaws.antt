@@ -21,6 +21,10 @@ use Rattle.frame.specs.declared.content.Fault.{Fault}
 pub length_payload : (c : List ℕ) → length (payload_of c) ≡ length c - 4
 length_payload c = simp (length-take, length-drop) (omega arith)
 
+-- the same as a pattern tells it: between two bytes in front and two behind
+pub length_between : (c : List ℕ) → length (take (length c - 2 - 2) (drop 2 c)) ≡ length c - 4
+length_between c = simp (length-take, length-drop) (omega arith)
+
 module _ (c : List ℕ) where
   pub judged_short : length c < 4 → judged c ≡ refused short_content no_place
   unfolding judged

@@ -3,7 +3,7 @@ ghost use Rattle.std.specs.Prelude.{◌≡◌};
 ghost use Rattle.frame.specs.Content.{judged};
 ghost use Rattle.frame.specs.Answers.{read_answer};
 
-use crate::{CHECK_START, CONTENT_MIN, NO_PLACE};
+use crate::{CHECK_START, NO_PLACE};
 use refusals::Refusal;
 
 // A frame that was read. `kind` is what the papers call its type; the payload's `length` bytes stand in
@@ -16,6 +16,7 @@ pub struct Frame {
 }
 
 // Why no frame was read. The place is a length for refusal 4, an offset for 1 and 2, and 0 for others.
+// A number, not an Option: C-16 gives the other refusals the place 0.
 #[derive(Clone, Copy)]
 pub struct Fault {
     pub refusal: Refusal,
@@ -27,12 +28,12 @@ pub struct Fault {
 pub fn judge(content: &[u8]) -> Result<Frame, Fault>
     ensures { result ≡ read_answer (judged content.now) }
 {
-    if content.len() < CONTENT_MIN {
+    let [kind, sequence, payload @ .., _, _] = content else {
         return Err(Fault {
             refusal: Refusal::ShortContent,
             place: NO_PLACE,
         });
-    }
+    };
     if crc::check(CHECK_START, content) != 0 {
         return Err(Fault {
             refusal: Refusal::BadCheck,
@@ -40,8 +41,8 @@ pub fn judge(content: &[u8]) -> Result<Frame, Fault>
         });
     }
     Ok(Frame {
-        kind: content[0],
-        sequence: content[1],
-        length: content.len() - CONTENT_MIN,
+        kind: *kind,
+        sequence: *sequence,
+        length: payload.len(),
     })
 }

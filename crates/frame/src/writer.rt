@@ -63,6 +63,10 @@ fn stuffed_size(byte: u8) -> usize
 }
 
 // Puts `content`, stuffed, into `out` from the place `at` on, and answers the place behind it.
+// A place, not an iterator over `out`: a byte becomes one or two. Three loops put what each byte becomes,
+// this one, put_stuffed of ash and put_digits of cases, and they stay three: here the room is known and
+// the place behind is answered, there what has no room is dropped and a length is answered. One function
+// over a closure would need the closure's law at each call.
 fn put_stuffed(out: &mut [u8], at: usize, content: &[u8]) -> usize
     requires { at + length (stuff content.now) ≤ length out.old }
     ensures { (result ≡ at + length (stuff content.now)) × (out.new ≡ put_at out.old at (stuff content.now)) }

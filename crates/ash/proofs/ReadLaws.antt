@@ -1,12 +1,14 @@
 -- What the reader goes on with where a test of its is met.
-use mathlib.Core.Path.{◌≡◌}
+use mathlib.Core.Path.{◌≡◌, sym, ap, ◌∙◌}
 use mathlib.Core.Bool.{true}
-use mathlib.Core.List.{List}
+use mathlib.Core.List.{List, ◌∷◌}
 use Prim.Native.Nat.{ℕ, ◌+◌, ◌≤◌}
+use native.Mathlib.Omega.{arith}
 use lib.ListN.{length, take, drop, get_or}
+use lib.Seq.{drop-drop}
 use borrow.Author.Tests.{eq-eqb, le-ltb, le-leb}
 use Rattle.slices.specs.Same.{same_bytes}
-use Rattle.ash.specs.Reserved.{unescaped}
+use Rattle.ash.specs.Reserved.{flag_byte, unescaped}
 use Rattle.ash.specs.Stuffing.{payload_max, unstuff}
 use Rattle.ash.specs.Header.{control_escaped, length_escaped, good_header}
 use Rattle.ash.specs.Reading.{frame, compared, checked, read_by_length, read_by_header, flag_first, read_frame}
@@ -27,6 +29,23 @@ module _ (bytes : List ℕ) where
       ≡ read_by_length (unescaped (control_escaped (get_or bytes 1 0)) (get_or bytes 2 0)) (unescaped (length_escaped (get_or bytes 1 0)) (get_or bytes 3 0)) bytes
   unfolding read_by_header
   header_good e = rw e
+
+-- and what stands behind the header is the payload as sent and the check
+module _ (escape control size : ℕ) (behind : List ℕ) where
+  pub header_taken : (n meant : ℕ) → good_header escape control size ≡ true → n ≡ unescaped (length_escaped escape) size
+      → meant ≡ unescaped (control_escaped escape) control → n ≤ payload_max → length behind ≡ n + 3
+      → read_by_header (flag_byte ∷ escape ∷ control ∷ size ∷ behind) ≡ checked meant (drop n behind) (unstuff (take n behind))
+  header_taken n meant good size_is meant_is few present =
+      header_good whole good ∙ rw (← size_is, ← meant_is) (length_right meant n whole few (omega (arith, present)))
+      ∙ ap (λ (rest : List ℕ). checked meant rest (unstuff (take n behind))) dropped
+    where
+      whole : List ℕ
+      whole = flag_byte ∷ escape ∷ control ∷ size ∷ behind
+
+      dropped : drop (n + 4) (flag_byte ∷ escape ∷ control ∷ size ∷ behind) ≡ drop n behind
+      dropped =
+          let turned : n + 4 ≡ 4 + n = omega arith in
+          rw turned (sym (drop-drop n 4 whole))
 
 module _ (room : ℕ) (bytes : List ℕ) where
   pub long_enough : payload_max ≤ room → flag_first bytes ≡ true → 7 ≤ length bytes → read_frame room bytes ≡ read_by_header bytes

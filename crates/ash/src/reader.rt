@@ -1,9 +1,9 @@
 // The reader of one frame.
-ghost use Rattle.std.specs.Prelude.{◌≡◌, ◌≤◌, length};
+ghost use Rattle.std.specs.Prelude.{◌≤◌, ◌∷◌, length};
+ghost use Rattle.ash.specs.Reserved.{flag_byte};
 ghost use Rattle.ash.specs.Stuffing.{payload_max, unstuff};
-ghost use Rattle.ash.specs.Header.{frame_min};
 ghost use Rattle.ash.specs.Check.{check_over};
-ghost use Rattle.ash.specs.Reading.{flag_first, compared, checked, read_by_length, read_by_header, read_frame};
+ghost use Rattle.ash.specs.Reading.{compared, checked, read_by_header, read_frame};
 ghost use Rattle.ash.specs.Answers.{ReadsAs};
 
 use crate::check::check_bytes;
@@ -12,6 +12,8 @@ use crate::header::{control_escaped, good_header, length_escaped};
 use crate::stuffing::unstuff;
 use crate::{FLAG, FRAME_MIN, HEADER_SIZE, PAYLOAD_MAX};
 use refusals::Refusal;
+
+const CHECK_SIZE: usize = FRAME_MIN - HEADER_SIZE;
 
 // A frame that was read. The payload's `length` bytes stand at the start of the output. A length, not a
 // slice: the bytes stand in the caller's buffer.
@@ -29,54 +31,39 @@ pub fn read_frame(bytes: &[u8], out: &mut [u8]) -> Result<Frame, Refusal>
     if out.len() < PAYLOAD_MAX {
         return Err(Refusal::ShortOutput);
     }
-    if !flag_first(bytes) {
-        return Err(Refusal::BadHeader);
+    match bytes {
+        [FLAG, escape, control, length, behind @ ..] if CHECK_SIZE <= behind.len() => {
+            read_by_header(*escape, *control, *length, behind, out)
+        }
+        [FLAG, ..] => Err(Refusal::BadLength),
+        _ => Err(Refusal::BadHeader),
     }
-    if bytes.len() < FRAME_MIN {
-        return Err(Refusal::BadLength);
-    }
-    read_by_header(bytes, out)
 }
 
-// Whether the first byte is a flag.
-fn flag_first(bytes: &[u8]) -> bool
-    ensures { result ≡ flag_first bytes.now }
+// Reads what stands behind the header of these sent bytes: refusal 21 where that is bad, then 22 where
+// the length is too long or not that of the bytes.
+#[tactic(auto, unfolding(crate::specs::Reading::read_by_header, crate::specs::Reading::read_by_length))]
+fn read_by_header(
+    escape: u8,
+    control: u8,
+    length: u8,
+    behind: &[u8],
+    out: &mut [u8],
+) -> Result<Frame, Refusal>
+    ensures { ReadsAs (read_by_header (flag_byte ∷ escape ∷ control ∷ length ∷ behind.now)) out.old result out.new }
 {
-    bytes.first() == Some(&FLAG)
-}
-
-// Reads a frame by its header: refusal 21 where that is bad.
-#[tactic(auto, unfolding(crate::specs::Reading::read_by_header))]
-fn read_by_header(bytes: &[u8], out: &mut [u8]) -> Result<Frame, Refusal>
-    requires { frame_min ≤ length bytes.now }
-    ensures { ReadsAs (read_by_header bytes.now) out.old result out.new }
-{
-    let escape = bytes[1];
-    let control = bytes[2];
-    let length = bytes[3];
     if !good_header(escape, control, length) {
         return Err(Refusal::BadHeader);
     }
-    let control_byte = unescape(control_escaped(escape), control);
-    let length_byte = unescape(length_escaped(escape), length);
-    read_by_length(control_byte, length_byte, bytes, out)
-}
-
-// Reads a frame whose header stands for these control and length bytes: refusal 22 where the length is
-// too long or not that of the bytes.
-#[tactic(auto, unfolding(crate::specs::Reading::read_by_length))]
-fn read_by_length(control: u8, length: u8, bytes: &[u8], out: &mut [u8]) -> Result<Frame, Refusal>
-    ensures { ReadsAs (read_by_length control length bytes.now) out.old result out.new }
-{
-    let size = length as usize;
+    let size = unescape(length_escaped(escape), length) as usize;
     if PAYLOAD_MAX < size {
         return Err(Refusal::BadLength);
     }
-    if bytes.len() != size + FRAME_MIN {
+    if behind.len() != size + CHECK_SIZE {
         return Err(Refusal::BadLength);
     }
-    let end = size + HEADER_SIZE;
-    read_payload(control, &bytes[HEADER_SIZE..end], &bytes[end..], out)
+    let (sent, check) = behind.split_at(size);
+    read_payload(unescape(control_escaped(escape), control), sent, check, out)
 }
 
 // Reads a payload as it was sent: refusal 23 where it is stuffed wrongly.

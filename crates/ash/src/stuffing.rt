@@ -12,6 +12,8 @@ use crate::escapes::{flip, is_reserved, rightly_escaped, unescape};
 pub(crate) fn put_stuffed(out: &mut [u8], payload: &[u8]) -> usize
     ensures { (result ≡ length (stuff payload.now)) × (out.new ≡ put_at out.old 0 (stuff payload.now)) }
 {
+    // A place, not an iterator over `out`: a byte becomes one or two. Why this loop is not one with
+    // put_stuffed of frame stands there.
     let mut to: usize = 0;
     for byte in payload {
         to += put_byte(out, to, *byte);
@@ -38,6 +40,7 @@ pub(crate) fn unstuff(sent: &[u8], payload: &mut [u8]) -> Option<usize>
     ensures read { UnstuffsAs (unstuff sent.now) payload.old result payload.new }
     ensures few { IfSome result (λ n. n ≤ length sent.now) }
 {
+    // A count, not an iterator over `payload`: an escape byte puts nothing there.
     let mut held: usize = 0;
     let mut escaped = false;
     for byte in sent {

@@ -1,4 +1,5 @@
 pub mod ReservedLaws
+pub mod BitLaws
 pub mod HeaderLaws
 pub mod CheckLaws
 pub mod StuffLaws

@@ -5,6 +5,9 @@ ghost use Rattle.ash.specs.Check.{bit4, without_bit4, spread, check_over};
 use crate::header::header_escape;
 use crate::{CHECK_START, FLAG};
 
+// Set in each reserved byte.
+const BIT_4: u8 = 0x10;
+
 // The three check bytes of a control and a length byte, before escaping, and a payload, before stuffing.
 #[tactic(auto, using(crate::proofs::CheckLaws::check_over_law))]
 pub(crate) fn check_bytes(control: u8, length: u8, payload: &[u8]) -> [u8; 3]
@@ -28,12 +31,11 @@ fn spread_check(check: u16) -> [u8; 3]
 fn bit_4(byte: u8) -> u8
     ensures { result ≡ bit4 byte }
 {
-    byte / 0x10 % 2
+    byte >> 4 & 1
 }
 
 fn without_bit_4(byte: u8) -> u8
     ensures { result ≡ without_bit4 byte }
 {
-    let above = byte / 0x20 * 0x20;
-    above + byte % 0x10
+    byte & !BIT_4
 }

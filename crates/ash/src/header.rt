@@ -5,11 +5,13 @@ ghost use Rattle.ash.specs.Header.{header_escape, sent_byte, control_escaped, le
 
 use crate::escapes::{flip, is_reserved, rightly_escaped};
 
-// What the header escape byte holds for a control byte and for a length byte that are escaped. Its six
-// lower bits are reserved.
+// What the header escape byte holds for a control byte and for a length byte that are escaped.
 const CONTROL_ESCAPED: u8 = 0x80;
 
 const LENGTH_ESCAPED: u8 = 0x40;
+
+// Its other six bits are reserved.
+const RESERVED_BITS: u8 = 0x3f;
 
 // A byte of the header as it is sent.
 pub(crate) fn sent_byte(byte: u8) -> u8
@@ -36,14 +38,14 @@ fn mark(byte: u8, bit: u8) -> u8
 pub(crate) fn control_escaped(escape: u8) -> bool
     ensures { result ≡ control_escaped escape }
 {
-    escape / CONTROL_ESCAPED % 2 == 1
+    escape & CONTROL_ESCAPED != 0
 }
 
 // Whether it tells of an escaped length byte.
 pub(crate) fn length_escaped(escape: u8) -> bool
     ensures { result ≡ length_escaped escape }
 {
-    escape / LENGTH_ESCAPED % 2 == 1
+    escape & LENGTH_ESCAPED != 0
 }
 
 // Whether a sent header sets no reserved bit, and escapes control and length where they have to be and
@@ -52,7 +54,7 @@ pub(crate) fn length_escaped(escape: u8) -> bool
 pub(crate) fn good_header(escape: u8, control: u8, length: u8) -> bool
     ensures { result ≡ good_header escape control length }
 {
-    if escape % LENGTH_ESCAPED != 0 {
+    if escape & RESERVED_BITS != 0 {
         return false;
     }
     if !rightly_escaped(control_escaped(escape), control) {

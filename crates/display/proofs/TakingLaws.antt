@@ -1,8 +1,7 @@
 -- A call with buffers of at least 9 and 383 bytes takes some of its piece: the display takes what its link takes.
 use mathlib.Core.Path.{◌≡◌, refl, ap, ◌∙◌}
 use mathlib.Core.List.{List}
-use Prim.Native.Nat.{ℕ, ◌+◌, ◌-◌, ◌≤◌, ◌<◌}
-use lib.ListN.{length, take, drop, length-take, length-drop}
+use Prim.Native.Nat.{ℕ, ◌≤◌}
 use native.Mathlib.Omega.{arith}
 use Rattle.frame.specs.Content.{payload_max}
 use Rattle.rows.specs.declared.Board.{Board}
@@ -40,11 +39,3 @@ takes_some display piece reply_size packet_size reply packet reply₁ packet₁ 
 pub takes : (display : Display) (piece reply packet reply₁ packet₁ : List ℕ) (received : Received)
     → DisplaysAs (receive_piece display piece reply_room payload_max) reply packet received reply₁ packet₁ → Takes piece received.taken
 takes display piece reply packet reply₁ packet₁ received r = takes_some display piece reply_room payload_max reply packet reply₁ packet₁ received (omega arith) (omega arith) r
-
--- the rest of a stream loses some, and no more than it has
-pub taken_of_rest : (stream : List ℕ) (at taken : ℕ) → at < length stream → Takes (take (length stream - at) (drop at stream)) taken
-    → (0 < taken) × (at + taken ≤ length stream)
-taken_of_rest stream at taken h t =
-    let size : length (take (length stream - at) (drop at stream)) ≡ length stream - at = simp (length-take, length-drop) (omega arith) in
-    let most = t.within in
-    (t.some (omega arith), omega arith)

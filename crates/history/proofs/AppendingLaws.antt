@@ -37,10 +37,6 @@ appends_both {xs} {ys} {d} {d₁} {d₂} {at} {place} {end} a b =
     let second = b.ends in
     record { puts = b.puts ∙ rw (a.puts, a.ends) (put_behind d at xs ys); ends = omega (arith, size, joined, first, second) }
 
--- the buffer keeps its length
-pub appends_length : {xs d d₁ : List ℕ} {at place : ℕ} → Appends xs d at d₁ place → length d₁ ≡ length d
-appends_length {xs} {d} {d₁} {at} {place} a = rw a.puts (length_put d at xs)
-
 -- the same text
 pub appends_same : {xs ys d d₁ : List ℕ} {at place : ℕ} → xs ≡ ys → Appends xs d at d₁ place → Appends ys d at d₁ place
 appends_same {xs} {ys} {d} {d₁} {at} {place} e a = subst (λ (text : List ℕ). Appends text d at d₁ place) e a

@@ -56,10 +56,6 @@ unfolding bytes_of
 put_one f output at n output₁ size put =
     record { counts = size ∙ ap length (sym (append-nil (sent_bytes f))); puts = put ∙ ap (put_at output at) (sym (append-nil (sent_bytes f))) }
 
-pub put_none : (output : List ℕ) (at : ℕ) → PutsAs [] output at 0 output
-unfolding bytes_of
-put_none output at = record { counts = refl; puts = refl }
-
 bytes_append : (fs gs : List Sent) → bytes_of (fs ++ gs) ≡ bytes_of fs ++ bytes_of gs
 unfolding bytes_of
 bytes_append [] gs = refl

@@ -1,6 +1,6 @@
 -- The bytes of a string are put one after the other, each as what it becomes. What is still to do is the bytes left, put from the present
 -- place on: that gives what the whole string put at the first place gives.
-use mathlib.Core.Path.{◌≡◌, refl, ◌∙◌}
+use mathlib.Core.Path.{◌≡◌, ◌∙◌}
 use mathlib.Core.List.{List}
 use Prim.Native.Nat.{ℕ, ◌+◌, ◌≤◌, ◌<◌}
 use native.Mathlib.Omega.{arith}
@@ -18,9 +18,6 @@ pub record Putting (f : ℕ → List ℕ) (out₀ : List ℕ) (at : ℕ) (s out 
   pub rest : put_at out to (each f (drop i s)) ≡ put_at out₀ at (each f s)
 
 module _ (f : ℕ → List ℕ) (out₀ : List ℕ) (at : ℕ) (s : List ℕ) where
-  pub none_put : Putting f out₀ at s out₀ at 0
-  none_put = record { within = omega arith; place = refl; kept = refl; rest = refl }
-
   module _ (out : List ℕ) (to i : ℕ) (so_far : Putting f out₀ at s out to i) where
     -- the next byte goes where the room for all is
     pub next_place : i < length s → to + length (f (get_or s i 0)) ≤ at + length (each f s)

@@ -19,6 +19,7 @@ const UPDATE: u8 = 0x03;
 
 // What became of a packet that was read: an update of the row at a place or an end mark, each with the
 // request id.
+// Two cases, not an id beside an Option: an end mark is no update of a missing row.
 #[derive(Clone, Copy)]
 pub enum Done {
     Updated { row: usize, id: u16 },
@@ -34,6 +35,7 @@ pub struct Reading {
 
 // What a packet asks of the board, with its request id: an update comes with its Name and the item
 // behind it, neither of them judged yet.
+// Two cases for the same reason.
 #[derive(Clone, Copy)]
 enum Task {
     Finish {

@@ -1,5 +1,7 @@
 // Text appended to a lent buffer. What would fall past the buffer's end is dropped, and the place
 // behind the text is then that end.
+// By hand, not by the library's formatting: that says what it writes to a String, on the heap, and this
+// text goes to a lent buffer and is cut at its end.
 // Two parameters, the buffer and the place: a struct that held a lent buffer would need one more clause
 // on each function, that it still holds the same one.
 ghost use Rattle.std.specs.Prelude.{◌≡◌, ◌+◌, ◌<◌, min};

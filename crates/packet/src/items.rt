@@ -80,7 +80,8 @@ fn no_items() -> Survey
     }
 }
 
-// The same with one item more behind them, which is of the wanted kind or not.
+// The same with one item more behind them. `wanted`, that it is of the wanted kind, is no switch: what
+// differs is one count and one item.
 fn with_item(survey: Survey, item: Item, wanted: bool) -> Survey
     requires { Countable survey }
     ensures { result ≡ with_item survey item wanted }

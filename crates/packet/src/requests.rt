@@ -23,7 +23,8 @@ const STOP_OPCODE: u8 = 0x0e;
 const OFFSET_LENGTH: u8 = 4;
 
 // Writes a data packet whose items are the three strings joined, if the output has room for it: the
-// shared end of the four requests.
+// shared end of the four requests. Opcode and id stay two parameters: the one is a constant where a request
+// is written, the other the caller's.
 fn write_packet(
     opcode: u8,
     id: u16,

@@ -25,6 +25,7 @@ pub enum State {
 }
 
 // A row. An unused row has the empty name.
+// No Option: an unused row is found by its empty name, as any row is by its own.
 #[derive(Clone, Copy)]
 pub struct Row {
     pub name: FixedBytes<NAME_ROOM>,

@@ -17,6 +17,7 @@ pub struct Held {
 }
 
 // `next` is the sequence of the next frame; `payload` is the held frame's.
+// The payload stands beside `held`, not in it: a match copies what is held, and a payload is 383 bytes.
 #[derive(Clone, Copy)]
 pub struct Sender {
     pub next: u8,

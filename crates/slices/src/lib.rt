@@ -20,6 +20,7 @@ pub fn put(dst: &mut [u8], at: usize, src: &[u8])
 }
 
 // The first `count` bytes of a slice; all of it where it has no more.
+// A name for what the papers say often; so are `same` and `pair`.
 pub fn first(s: &[u8], count: usize) -> &[u8]
     ensures { result.now ≡ take count s.now }
 {

@@ -18,6 +18,7 @@ pub fn read_value(kind: u8, bytes: &[u8]) -> Option<i64>
 }
 
 // The number without its sign, for a caller that prints it.
+// A public name that stays; the library does the work.
 pub fn magnitude(number: i64) -> u64
     ensures { result ≡ nat_abs number }
 {

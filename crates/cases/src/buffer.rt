@@ -11,12 +11,11 @@ pub const UNTOUCHED: u8 = 0xee;
 pub(crate) fn put_digits(out: &mut [u8], bytes: &[u8]) -> usize
     ensures { (result ≡ length (hex_of bytes.now)) × (out.new ≡ put_at out.old 0 (hex_of bytes.now)) }
 {
-    let mut to = 0;
-    for byte in bytes {
-        slices::put(out, to, &[digit(*byte / 16), digit(*byte)]);
-        to += 2;
+    // Why this loop is not one with put_stuffed of frame stands there.
+    for (place, byte) in bytes.iter().enumerate() {
+        slices::put(out, 2 * place, &[digit(*byte / 16), digit(*byte)]);
     }
-    to
+    2 * bytes.len()
 }
 
 // The last digit of a number.

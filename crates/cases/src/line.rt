@@ -87,7 +87,7 @@ pub fn number(bytes: &[u8]) -> u64
 fn with_byte(number: u64, byte: u8) -> u64
     ensures { result ≡ with_byte number byte }
 {
-    number % 0x100_0000_0000_0000 * 256 + byte as u64
+    (number << 8) + byte as u64
 }
 
 // The byte that two characters stand for.

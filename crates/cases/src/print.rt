@@ -19,14 +19,7 @@ pub fn number(rt: &impl Print, label: &[u8], number: u64) {
 
 // A label and the first `count` of the bytes, two hexadecimal digits each.
 pub fn bytes(rt: &impl Print, label: &[u8], bytes: &[u8], count: usize) {
-    text(rt, label);
-    for item in bytes.iter().take(count) {
-        byte(rt, *item);
-    }
-}
-
-fn byte(rt: &impl Print, byte: u8) {
-    let _ = print!(rt; "{byte:02x}");
+    hex(rt, label, slices::first(bytes, count));
 }
 
 // A label and a lent buffer: its bytes up to and with the last one that is not ee, and behind a plus

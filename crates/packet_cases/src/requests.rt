@@ -25,7 +25,7 @@ fn show_written(rt: &impl Print, line: &[u8], bytes: &[u8], out: &mut [u8]) {
         Ok(length) => print::number(rt, b": length ", length as u64),
         Err(refusal) => print::number(rt, b": refused ", refusal.number() as u64),
     }
-    print::bytes(rt, b" ", out, out.len());
+    print::hex(rt, b" ", out);
     print::text(rt, b"\n");
 }
 

@@ -31,6 +31,6 @@ fn show_end(rt: &impl Print, complete: bool) {
 
 pub(crate) fn show_file(rt: &impl Print, file: &[u8]) {
     let start = file.len().saturating_sub(SHOWN);
-    print::bytes(rt, b", file ", &file[start..], SHOWN);
+    print::hex(rt, b", file ", &file[start..]);
     print::text(rt, b"\n");
 }

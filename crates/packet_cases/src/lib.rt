@@ -26,11 +26,11 @@ pub fn run(rt: &impl Print, line: &[u8], bytes: &[u8]) {
 }
 
 fn show_look(rt: &impl Print, line: &[u8], bytes: &[u8]) {
-    if bytes.len() == 0 {
+    let [kind, packet @ ..] = bytes else {
         line::not_run(rt, line, b"too few bytes");
         return;
-    }
-    packets::show_look(rt, line, &bytes[1..], bytes[0]);
+    };
+    packets::show_look(rt, line, packet, *kind);
 }
 
 fn show_name(rt: &impl Print, bytes: &[u8]) {

@@ -26,28 +26,26 @@ fn empty_items() -> [u8; LONG_ROOM] {
 
 // The packet is made in `packet`, which is full of empty items.
 fn show_in(rt: &impl Print, line: &[u8], bytes: &[u8], packet: &mut [u8]) {
-    if bytes.len() < SIZE_END {
+    let Some(([kind, size @ ..], tail)) = bytes.split_at_checked(SIZE_END) else {
         line::not_run(rt, line, b"too few bytes");
         return;
-    }
-    let size = line::number(&bytes[1..SIZE_END]) as usize;
-    let tail = &bytes[SIZE_END..];
+    };
+    let size = line::number(size) as usize;
     if size < HEAD.len() {
         line::not_run(rt, line, b"too short");
         return;
     }
-    if packet.len() < size {
+    let Some(room) = packet.get_mut(size..) else {
+        line::not_run(rt, line, b"too long");
+        return;
+    };
+    if room.len() < tail.len() {
         line::not_run(rt, line, b"too long");
         return;
     }
-    let end = size + tail.len();
-    if packet.len() < end {
-        line::not_run(rt, line, b"too long");
-        return;
-    }
+    slices::put(room, 0, tail);
     slices::put(packet, 0, &HEAD);
-    slices::put(packet, size, tail);
-    let whole = slices::first(packet, end);
-    packets::show_look(rt, line, whole, bytes[0]);
+    let whole = slices::first(packet, size + tail.len());
+    packets::show_look(rt, line, whole, *kind);
     packets::show(rt, line, whole);
 }

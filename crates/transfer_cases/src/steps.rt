@@ -3,6 +3,7 @@ ghost use Rattle.std.specs.Prelude.{◌≡◌, [], ◌∷◌};
 ghost use Rattle.transfer.specs.Transfer.{start_of};
 
 use crate::report;
+use cases::buffer::UNTOUCHED;
 use cases::{line, print};
 use transfer::Transfer;
 
@@ -44,9 +45,8 @@ pub(crate) fn start(
 }
 
 fn clear(file: &mut [u8]) {
-    for byte in file.iter_mut().take(FILE_MAX) {
-        *byte = 0xee;
-    }
+    let most = file.len().min(FILE_MAX);
+    file[..most].fill(UNTOUCHED);
 }
 
 pub(crate) fn give(
@@ -56,13 +56,14 @@ pub(crate) fn give(
     packet: &[u8],
     file: &mut [u8],
 ) -> Receiving {
-    let room = state.room;
-    if file.len() < room {
+    let Some(lent) = file.get_mut(..state.room) else {
         line::not_run(rt, line, b"too long a buffer");
         return state;
+    };
+    Receiving {
+        transfer: take(rt, state.transfer, line, packet, lent),
+        ..state
     }
-    let transfer = take(rt, state.transfer, line, packet, &mut file[..room]);
-    Receiving { transfer, room }
 }
 
 fn take(

@@ -64,5 +64,5 @@ fn show_held(rt: &impl Print, session: Session) {
 // A held frame: its number, and its data before stuffing.
 fn show_frame(rt: &impl Print, number: OFC, payload: Payload) {
     print::number(rt, b" held ", number.0 as u64);
-    print::hex(rt, b" ", slices::first(&payload.bytes, payload.length));
+    print::hex(rt, b" ", payload.as_slice());
 }

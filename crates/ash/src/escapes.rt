@@ -22,14 +22,15 @@ pub(crate) fn flip(byte: u8) -> u8
     byte ^ FLIPPED_BIT
 }
 
-// What a sent byte stands for, escaped or not.
+// What a sent byte stands for, escaped or not. A bool, not an enum: it is a bit of the header, or whether
+// an escape byte stood before.
 pub(crate) fn unescape(escaped: bool, sent: u8) -> u8
     ensures { result ≡ unescaped escaped sent }
 {
     if escaped { flip(sent) } else { sent }
 }
 
-// Whether a sent byte is escaped where it has to be, and only there.
+// Whether a sent byte is escaped where it has to be, and only there. A bool as above.
 pub(crate) fn rightly_escaped(escaped: bool, sent: u8) -> bool
     ensures { result ≡ rightly_escaped escaped sent }
 {

@@ -23,7 +23,8 @@ fn check(start: u16, bytes: &[u8]) -> u16
     register
 }
 
-// The register after one byte more.
+// The register after one byte more. Multiples and remainders, not shifts, here and below: the check stays
+// as it was before C-15, and the definitions say it so.
 fn add_byte(register: u16, byte: u8) -> u16
     ensures { result ≡ add_byte register byte }
 {

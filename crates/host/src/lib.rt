@@ -49,7 +49,8 @@ pub extern "C" fn arznavik_frame_write(
 }
 
 // A report: the refusal's number in bits 0 to 7, type in 8 to 15, sequence in 16 to 23, length in 24
-// to 39, the refusal's place in 40 to 63.
+// to 39, the refusal's place in 40 to 63. One number, not a struct: C reads it by these places
+// (include/arznavik.h). The contract says them as multiples, and so does the sum.
 fn report(number: u8, kind: u8, sequence: u8, length: usize, place: usize) -> u64
     requires { (length < 0x10000) × (place < 0x1000000) }
     ensures { result ≡ report_of number kind sequence length place }

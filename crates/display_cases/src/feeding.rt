@@ -60,7 +60,8 @@ pub(crate) fn feed_acknowledgements(rt: &impl Print, display: Display, count: u6
     passed.display
 }
 
-// Feeds a whole stream; `shown` says whether the answers are printed.
+// Feeds a whole stream; `shown` says whether the answers are printed. A bool, not an enum of two values:
+// it switches one call on.
 pub(crate) fn pass(rt: &impl Print, before: Passed, stream: &[u8], shown: bool) -> Passed {
     let mut passed = before;
     let mut left = stream;
@@ -74,7 +75,7 @@ pub(crate) fn pass(rt: &impl Print, before: Passed, stream: &[u8], shown: bool) 
 }
 
 // One call with buffers of the least size; they count where it brought a frame. The contract says how
-// many bytes it takes, and no more: the loop needs that to end.
+// many bytes it takes, and no more: the loop needs that to end. `shown` is the bool of `pass`.
 fn take_piece(rt: &impl Print, before: Passed, piece: &[u8], shown: bool) -> Call
     ensures { Takes piece.now result.taken }
 {

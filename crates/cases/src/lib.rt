@@ -7,6 +7,8 @@
 // First stands the key, which says what is run, then a space, the label, which is printed, and a
 // colon. Behind it stands each byte of the case: a space and two hexadecimal digits, or a space, a
 // quote and the byte itself.
+//
+// Printing, a line and its bytes stay three parameters of a case's function: most need two of them.
 pub mod buffer;
 pub mod input;
 pub mod line;

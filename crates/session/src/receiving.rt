@@ -39,6 +39,8 @@ pub fn receive(session: Session, frame: &[u8], output: &mut [u8], payload: &mut 
 }
 
 // A frame with what its control byte says and its data.
+// `output` and `handed` stay two parameters here and below: a struct of both would be no plainer, since
+// the public call lends two.
 #[tactic(auto, using(crate::proofs::TakenLaws::reset_hands_none))]
 fn take_frame(
     session: Session,

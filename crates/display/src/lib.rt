@@ -73,23 +73,27 @@ pub fn receive(display: Display, piece: &[u8], reply: &mut [u8], packet: &mut [u
     ensures { DisplaysAs (receive_piece display piece.now (length reply.old) (length packet.old)) reply.old packet.old result reply.new packet.new }
 {
     let received = receiver::receive(display.link, piece, reply, packet);
-    let sender = display.sender;
-    let board = display.board;
     match received.answer {
         receiver::Answer::New {
             reply: replied,
             packet: length,
         } => {
-            let reading = board::read(board, &packet[..length]);
-            hand_up(received, sender, replied, length, reading)
+            let reading = board::read(display.board, &packet[..length]);
+            hand_up(received, display.sender, replied, length, reading)
         }
-        receiver::Answer::Nothing => keep(received, sender, board, Answer::Nothing),
-        receiver::Answer::Refused(fault) => keep(received, sender, board, Answer::Refused(fault)),
+        receiver::Answer::Nothing => keep(received, display.sender, display.board, Answer::Nothing),
+        receiver::Answer::Refused(fault) => {
+            let answer = Answer::Refused(fault);
+            keep(received, display.sender, display.board, answer)
+        }
         receiver::Answer::Heard(sequence) => {
-            let behind = sender::acknowledge(sender, sequence);
-            keep(received, behind, board, Answer::Heard(sequence))
+            let behind = sender::acknowledge(display.sender, sequence);
+            keep(received, behind, display.board, Answer::Heard(sequence))
         }
-        receiver::Answer::Again(length) => keep(received, sender, board, Answer::Again(length)),
+        receiver::Answer::Again(length) => {
+            let answer = Answer::Again(length);
+            keep(received, display.sender, display.board, answer)
+        }
     }
 }
 

@@ -14,7 +14,8 @@ pub(crate) fn add_eight(register: u16, bytes: &[u8; 8]) -> u16
 // and the word, with 16 zero bits behind it, is divided by the polynomial. In arithmetic without
 // carries the polynomial is 1 + u, moved up by 16 places, where u is the sum of the moves down by 4, by
 // 11 and by 16 places. To divide by 1 + u is to multiply by (1 + u)(1 + u^2)(1 + u^4)(1 + u^8), up to
-// u^16, which moves a whole word away. Of the quotient the low 16 bits give the remainder.
+// u^16, which moves a whole word away. Of the quotient the low 16 bits give the remainder. Arithmetic, not
+// bytes taken apart: this is the division itself.
 pub(crate) fn add_word(register: u16, word: u64) -> u16
     ensures { result ≡ crc_of register (high_first 8 word) }
 {

@@ -24,7 +24,8 @@ pub struct Display {
 // acknowledgement; the length of the reply to a data frame that came again; or the lengths of a new
 // one's reply and payload, and what the board read in it.
 // One enum, not a Result: whoever calls tells the five cases apart in one match, and a refusal is
-// one of them.
+// one of them. Not one enum with the link's: a new packet has here what the board read too, and a type
+// parameter for that would stand in each contract of the link.
 #[derive(Clone, Copy)]
 pub enum Answer {
     Nothing,

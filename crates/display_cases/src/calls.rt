@@ -59,6 +59,8 @@ pub(crate) fn show_answer(
     print::text(rt, b"\n");
 }
 
+// Beside the printer of the same name in board_cases: their labels differ, and one function would take
+// three of them.
 fn show_reading(rt: &impl Print, reading: Result<Done, Refusal>) {
     match reading {
         Ok(Done::Updated { row, id }) => {

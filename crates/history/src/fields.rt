@@ -20,7 +20,7 @@ pub enum Head {
 }
 
 // Judges a head; none where the field is broken. `listing` says that no field but names came before,
-// so that a name may come.
+// so that a name may come. A bool, not an enum: it is data of the same call.
 pub fn judge(tag: u8, high: u8, low: u8, listing: bool) -> Option<Head>
     ensures { result ≡ head_of tag (pair_of high low) listing }
 {

@@ -10,7 +10,8 @@ use crate::{EOF_KIND, HEAD_LENGTH};
 // A type byte and a length byte stand in front of an item's value.
 const ITEM_HEAD: usize = 2;
 
-// An item of a packet: its kind, where in the packet its value starts, and the value's length.
+// An item of a packet: its kind, where in the packet its value starts, and the value's length. A place
+// and a length, not a slice: the bytes stand in the caller's packet.
 #[derive(Clone, Copy)]
 pub struct Item {
     pub kind: u8,

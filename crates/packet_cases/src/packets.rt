@@ -28,8 +28,8 @@ pub(crate) fn show_look(rt: &impl Print, line: &[u8], packet: &[u8], kind: u8) {
         b", of the kind ",
         look.map_or(0, |look| look.count as u64),
     );
-    show_place(rt, b", first", look.map_or(None, |look| look.first));
-    show_place(rt, b", behind", look.map_or(None, |look| look.behind));
+    show_place(rt, b", first", look.ok().and_then(|look| look.first));
+    show_place(rt, b", behind", look.ok().and_then(|look| look.behind));
     print::text(rt, b"\n");
 }
 

@@ -26,7 +26,8 @@ impl From<io::Error> for Fault {
     }
 }
 
-// The head of the next field, if there is one. A head that is cut is broken.
+// The head of the next field, if there is one. A head that is cut is broken. `listing` is the bool of the
+// judge.
 pub(crate) fn head(input: &mut impl Read, listing: bool) -> Result<Option<Head>, Fault> {
     let mut tag = [0u8; 1];
     if input.read(&mut tag)? == 0 {

@@ -57,8 +57,8 @@ fn record_data(session: Session, number: AFC, length: usize) -> Session
 }
 
 // Puts the held frames at the start of `output` if they are to be sent again, and answers their length.
+// A bool, here and above, not a closure: it says which of two types the frame has.
 #[tactic(auto, unfolding(crate::specs::Frames::bytes_of))]
-// A bool, not a closure: it says which of two types the frame has.
 fn repeat(session: Session, again: bool, output: &mut [u8]) -> usize
     ensures { RepeatsAs again session output.old result output.new }
 {

@@ -12,9 +12,8 @@ pub struct FixedBytes<const N: usize> {
 }
 
 impl<const N: usize> FixedBytes<N> {
-    // A function, not a From: what passes the room is lost.
     // The bytes of `src`, with zeros behind them. What passes the room is dropped, and the length
-    // says still how many there were.
+    // says still how many there were. A function, not a From: what is dropped is lost.
     pub fn of(src: &[u8]) -> FixedBytes<N>
         ensures { result ≡ fixed_of N src.now }
     {

@@ -20,7 +20,7 @@ pub fn put(dst: &mut [u8], at: usize, src: &[u8])
 }
 
 // The first `count` bytes of a slice; all of it where it has no more.
-// A name for what the papers say often; so are `same` and `pair`.
+// This public function stays, as `same` and `pair` do: each has a row of promises. The library does the work.
 pub fn first(s: &[u8], count: usize) -> &[u8]
     ensures { result.now ≡ take count s.now }
 {

@@ -20,26 +20,10 @@ use Rattle.packet.specs.declared.reading.Look.{Look}
 use Rattle.transfer.specs.Fragment.{form_of}
 use Rattle.transfer.specs.Transfer.{fragment_opcode, refused, refused_with, judge_form, verdict_of, advanced, outcome_by, file_by, verdict_for, Takes}
 use Rattle.transfer.specs.declared.state.Transfer.{Transfer}
-use Rattle.transfer.specs.Steps.{parts_in, parts_of, parts_beside, parts_with, as_verdict}
+use Rattle.transfer.specs.Steps.{parts_in, parts_of, parts_seen, parts_with, as_verdict}
 use Rattle.transfer.specs.declared.parts.Parts.{Parts}
 use Rattle.transfer.specs.declared.judging.Accepted as code
 use Rattle.transfer.proofs.StepLaws.{verdict_told, binary_told}
-
--- the parts that five looks tell of
-abbrev parts_seen_in : (locations offsets binaries lengths ends : Look) → Parts
-parts_seen_in locations offsets binaries lengths ends =
-    record {
-      all = locations.all;
-      locations = locations.count;
-      offsets = offsets.count;
-      binaries = binaries.count;
-      lengths = lengths.count;
-      ends = ends.count;
-      location = locations.first;
-      offset = offsets.first;
-      binary = binaries.first;
-      length = lengths.first;
-    }
 
 -- what a look for Locations, and the looks behind it, answered
 module _ (transfer : Transfer) (room : ℕ) where
@@ -74,15 +58,15 @@ module _ (locations : Look) (j : Judged) where
       cases (judged.packet p) e = impossible cc
       cases (judged.refused found) e = let same : r ≡ found = cc in rw same
 
-  pub parts_seen : (offsets binaries lengths ends : Look) → Ok offsets ≡ look_by offset_kind j → Ok binaries ≡ look_by binary_kind j
+  pub looks_seen : (offsets binaries lengths ends : Look) → Ok offsets ≡ look_by offset_kind j → Ok binaries ≡ look_by binary_kind j
       → Ok lengths ≡ look_by length_kind j → Ok ends ≡ look_by eof_kind j
-      → Ok (parts_seen_in locations offsets binaries lengths ends) ≡ parts_with locations j
+      → Ok (parts_seen locations offsets binaries lengths ends) ≡ parts_with locations j
   unfolding look_by parts_with
-  parts_seen offsets binaries lengths ends o b l e = cases j o b l e
+  looks_seen offsets binaries lengths ends o b l e = cases j o b l e
     where
       cases : (j : Judged) → Ok offsets ≡ look_by offset_kind j → Ok binaries ≡ look_by binary_kind j
           → Ok lengths ≡ look_by length_kind j → Ok ends ≡ look_by eof_kind j
-          → Ok (parts_seen_in locations offsets binaries lengths ends) ≡ parts_with locations j
+          → Ok (parts_seen locations offsets binaries lengths ends) ≡ parts_with locations j
       cases (judged.packet p) o b l e =
           let o' : offsets ≡ look_at offset_kind p = cc in
           let b' : binaries ≡ look_at binary_kind p = cc in
@@ -102,8 +86,9 @@ pub parts_found : (j : Judged) (locations : Look) (parts : Parts) → look_by lo
 unfolding look_by parts_with judged_items
 parts_found (judged.packet p) locations parts e f =
     let same : look_at location_kind p ≡ locations = cc in
-    let found : parts_beside locations p.items ≡ parts = cc in
-    sym found ∙ ap (λ (l : Look). parts_beside l p.items) (sym same)
+    let rest : Look → Parts = λ l. parts_seen l (look_at offset_kind p) (look_at binary_kind p) (look_at length_kind p) (look_at eof_kind p) in
+    let found : rest locations ≡ parts = cc in
+    sym found ∙ ap rest (sym same)
 parts_found (judged.refused found) locations parts e f = impossible cc
 
 -- for the search

@@ -7,7 +7,7 @@ use Rattle.refusals.specs.declared.Refusal.{Refusal}
 use Rattle.packet.specs.Items.{Item, count_of}
 use Rattle.packet.specs.Packet as judged
 use Rattle.packet.specs.Packet.{head_length, Judged, packet_items}
-use Rattle.packet.specs.Answers.{Found, find_in}
+use Rattle.packet.specs.Answers.{Found, find_in, look_at}
 use Rattle.packet.specs.declared.reading.Look.{Look}
 use Rattle.transfer.specs.Fragment.{Form, good, bad}
 use Rattle.transfer.specs.Transfer.{Verdict, accepted, refused}
@@ -34,24 +34,26 @@ parts_in items =
 abbrev pub parts_of : List ℕ → Parts
 parts_of bytes = parts_in (packet_items bytes)
 
--- those of a packet in which Locations have been looked for: one look for each other kind
-abbrev pub parts_beside : Look → List Item → Parts
-parts_beside locations items =
+-- the parts that five looks tell of
+abbrev pub parts_seen : (locations offsets binaries lengths ends : Look) → Parts
+parts_seen locations offsets binaries lengths ends =
     record {
       all = locations.all;
       locations = locations.count;
-      offsets = count_of offset_kind items;
-      binaries = count_of binary_kind items;
-      lengths = count_of length_kind items;
-      ends = count_of eof_kind items;
+      offsets = offsets.count;
+      binaries = binaries.count;
+      lengths = lengths.count;
+      ends = ends.count;
       location = locations.first;
-      offset = find_in head_length offset_kind items;
-      binary = find_in head_length binary_kind items;
-      length = find_in head_length length_kind items;
+      offset = offsets.first;
+      binary = binaries.first;
+      length = lengths.first;
     }
 
+-- those of a packet in which Locations have been looked for: one look for each other kind
 unfoldable pub parts_with : Look → Judged → Result Parts Refusal
-parts_with locations (judged.packet p) = Ok (parts_beside locations p.items)
+parts_with locations (judged.packet p) =
+    Ok (parts_seen locations (look_at offset_kind p) (look_at binary_kind p) (look_at length_kind p) (look_at eof_kind p))
 parts_with locations (judged.refused r) = Err r
 
 -- the items are right by their counts: of the parts of a packet this is Fragment's `right_items`

@@ -1,7 +1,7 @@
 -- `transfer::parts::find_parts` meets its contract: a refused look is the refusal, and five looks tell of the parts.
 use Rattle.std.specs.Prelude.{Err}
 use Rattle.std.proofs.Common.{rules, ◌≡◌, ◌∙◌}
-use Rattle.transfer.proofs.JudgeLaws.{parts_refused, parts_seen}
+use Rattle.transfer.proofs.JudgeLaws.{parts_refused, looks_seen}
 use Rattle.transfer.proofs.parts.find_parts.Goals as goal
 
 pub returns-in_err-offsets : goal.returns-in_err-offsets
@@ -25,4 +25,4 @@ returns-in_err-ends c =
     passed ∙ parts_refused _ _ _ _ c.in_err-ends.ensures
 
 pub returns : goal.returns
-returns c = parts_seen _ _ _ _ _ _ c.in_ok-offsets.ensures c.in_ok-binaries.ensures c.in_ok-lengths.ensures c.in_ok-ends.ensures
+returns c = looks_seen _ _ _ _ _ _ c.in_ok-offsets.ensures c.in_ok-binaries.ensures c.in_ok-lengths.ensures c.in_ok-ends.ensures

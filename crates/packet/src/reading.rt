@@ -26,7 +26,9 @@ pub struct Look {
     pub behind: Option<Item>,
 }
 
-// Looks at a packet for a kind: refusal 9 or 10, or what the packet is and has of the kind.
+// Looks at a packet for a kind: refusal 9 or 10, or what the packet is and has of the kind. Inlined: most
+// callers know the kind and use a part of the answer.
+#[inline(always)]
 pub fn look_for(s: &[u8], kind: u8) -> Result<Look, Refusal>
     ensures { result ≡ look_of kind s.now }
 {

@@ -29,7 +29,7 @@ loop-at-smaller c =
     omega arith
 
 pub loop-at-preserved : goal.loop-at-preserved
-loop-at-preserved c = rw c.with_item-survey.ensures (passed (goal.at.loop-at-preserved c).In_ok-item).reached
+loop-at-preserved c = rw c.with_item.ensures (passed (goal.at.loop-at-preserved c).In_ok-item).reached
 
 pub returns : goal.returns
 returns c =

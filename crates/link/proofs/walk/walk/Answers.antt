@@ -6,7 +6,7 @@ use Rattle.link.proofs.walk.walk.Goals.{in-Ok-None, in_default, in_default-2}
 
 pub loop-i-preserved-then-byte-ne-FLAG : goal.loop-i-preserved-then-byte-ne-FLAG
 loop-i-preserved-then-byte-ne-FLAG c =
-    sym (walk_byte c.args.piece.now c.loop-i.i c.loop-i.content c.loop-i.next c.loop-i-test.true c.if-byte-ne-FLAG.true _ _ c.step-next.ensures)
+    sym (walk_byte c.args.piece.now c.loop-i.i c.loop-i.content c.loop-i.next c.loop-i-test.true c.if-byte-ne-FLAG.true _ _ c.step-stepped.ensures)
     ∙ c.loop-i.invariant
 
 pub loop-i-preserved : goal.loop-i-preserved

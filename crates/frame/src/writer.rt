@@ -17,7 +17,8 @@ pub fn write_frame(kind: u8, sequence: u8, payload: &[u8], out: &mut [u8]) -> Re
         return Err(Refusal::LongPayload);
     }
     let check = crc::check(crc::check_pair(CHECK_START, kind, sequence), payload);
-    put_frame(&[kind, sequence], payload, &check.to_be_bytes(), out)
+    let [high, low] = check.to_be_bytes();
+    put_frame(&[kind, sequence], payload, &[high, low], out)
 }
 
 // Writes the frame whose content is the three parts joined, unless `out` has too little room.

@@ -29,7 +29,7 @@ pub const HEADER_SIZE: usize = 2;
 // The least content: type, sequence and two bytes of check.
 pub const CONTENT_MIN: usize = 4;
 // The most: a payload of 383 bytes with them.
-pub const CONTENT_MAX: usize = 387;
+pub const CONTENT_MAX: usize = PAYLOAD_MAX + CONTENT_MIN;
 // So many sent bytes hold a fault or a byte too many, if they do not end before.
 pub const SENT_MAX: usize = 2 * (CONTENT_MAX + 1);
 // The place of a refusal that has none.

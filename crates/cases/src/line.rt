@@ -1,11 +1,37 @@
 // The parts of a case's line.
-ghost use Rattle.std.specs.Prelude.{◌≡◌, ◌==◌, ◌<◌, min, length, position, MatchOption};
+ghost use Rattle.std.specs.Prelude.{◌≡◌, ◌==◌, ◌+◌, ◌<◌, min, length, position, MatchOption};
 ghost use Rattle.cases.specs.Counts.{IsPrefixLen};
 ghost use Rattle.slices.specs.Put.{put_at};
 ghost use Rattle.cases.specs.Lending.{Lends, LendsNothing};
-ghost use Rattle.cases.specs.Line.{key_of, digit_of, byte_of, case_bytes, with_byte, number_from};
+ghost use Rattle.cases.specs.Line.{line_at, key_of, digit_of, byte_of, case_bytes, with_byte, number_from};
 
 use crate::print;
+
+// The line of a text that begins at a place, without its end. Past the text it is empty.
+#[tactic(auto, using(slices::proofs::PartLaws::part_rest, crate::proofs::LineLaws::no_line, crate::proofs::LineLaws::ended_line, crate::proofs::LineLaws::last_line))]
+pub fn at(text: &[u8], place: usize) -> &[u8]
+    ensures { result.now ≡ line_at text.now place }
+{
+    if text.len() <= place {
+        return b"";
+    }
+    let rest = &text[place..];
+    match find(rest, b'\n') {
+        Some(end) => slices::first(rest, end),
+        None => rest,
+    }
+}
+
+// The place where the next line begins; where there is none, the text's length.
+#[tactic(auto, using(crate::proofs::LineLaws::line_within))]
+pub fn behind(text: &[u8], place: usize) -> usize
+    ensures { result ≡ min (length text.now) (place + length (line_at text.now place) + 1) }
+{
+    if text.len() <= place {
+        return text.len();
+    }
+    text.len().min(place + at(text, place).len() + 1)
+}
 
 // The key of a line. An empty line has the key 0.
 pub fn key(line: &[u8]) -> u8

@@ -26,12 +26,12 @@ stopped content (Ok (Some n)) k = refl
 stopped content (Err fault) k = refl
 
 module _ (piece : List ℕ) (i : ℕ) (content : List ℕ) (reader : Reader) where
-  walk_on : i < length piece → (content₁ : List ℕ) (reader₁ : Reader) → turn_of content reader (get_or piece i 0) ≡ goes_on content₁ reader₁
+  pub walk_on : i < length piece → (content₁ : List ℕ) (reader₁ : Reader) → turn_of content reader (get_or piece i 0) ≡ goes_on content₁ reader₁
       → walk_of (drop i piece) content reader i ≡ walk_of (drop (i + 1) piece) content₁ reader₁ (i + 1)
   unfolding walk_of
   walk_on h content₁ reader₁ e = rw (add-one, drop-cons piece i 0 h, e)
 
-  walk_stop : i < length piece → (end : Ended) → turn_of content reader (get_or piece i 0) ≡ stops end
+  pub walk_stop : i < length piece → (end : Ended) → turn_of content reader (get_or piece i 0) ≡ stops end
       → walk_of (drop i piece) content reader i ≡ record { content = content; reader = behind_flag; taken = i + 1; ended = end }
   unfolding walk_of
   walk_stop h end e = rw (add-one, drop-cons piece i 0 h, e)

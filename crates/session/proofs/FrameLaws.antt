@@ -73,7 +73,7 @@ put_behind fs gs output m n output₁ output₂ first second =
     }
 
 -- at most two frames are sent again
-one_short : (f : Sent) → length (bytes_of (f ∷ [])) ≤ frame_max
+pub one_short : (f : Sent) → length (bytes_of (f ∷ [])) ≤ frame_max
 unfolding bytes_of
 one_short f = rw (append-nil (sent_bytes f)) (frame_short _ f.payload)
 

@@ -131,7 +131,7 @@ def main():
         papers = named_in_papers(commit) | named_in_papers(None)
         section = []
         for path in sorted({*before, *after}):
-            if re.search(r"/(Goals|Answers|Invariants)\.antt$", path):
+            if re.search(r"/proofs/.*(Goals|Answers|Invariants)\.antt$", path):
                 continue
             a, b = before.get(path, ""), after.get(path, "")
             if ending == "rt":
